@@ -1,0 +1,6 @@
+pub mod Files
+pub mod Image
+pub mod Location
+pub mod MemFiles
+pub mod MemSink
+pub mod Name

@@ -1,0 +1,24 @@
+//! What every layer of the verifier shares: addresses and bytes, registers and flags, source lines and names,
+//! and the outside world as files and a sink, each with an implementation in memory.
+#![tactic(auto)]
+
+mod files;
+mod image;
+mod line;
+mod location;
+mod memory;
+mod memory_files;
+mod memory_sink;
+mod name;
+
+pub use files::{Files, ReadRefusal, Sink, WriteRefusal};
+pub use image::Image;
+pub use line::Line;
+pub use location::{Loc, Reg};
+pub use memory::Memory;
+pub use memory_files::MemFiles;
+pub use memory_sink::MemSink;
+pub use name::Name;
+
+#[cfg(test)]
+mod tests;
