@@ -1,0 +1,10 @@
+pub mod CoreLaws
+pub mod DigitLaws
+pub mod FormLaws
+pub mod ImageLaws
+pub mod LineLaws
+pub mod ReadLaws
+pub mod RightLaws
+pub mod RunLaws
+pub mod Steps
+pub mod WordLaws

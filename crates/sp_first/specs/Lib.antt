@@ -1,0 +1,9 @@
+pub mod Counts
+pub mod Form
+pub mod Gives
+pub mod Header
+pub mod Program
+pub mod Reading
+pub mod Right
+pub mod Source
+pub mod Words

@@ -1,0 +1,11 @@
+//! The verifier for sources of the first form: one routine that loads and copies registers and returns.
+#![tactic(auto)]
+
+mod image;
+mod lines;
+mod source;
+mod verdict;
+mod verifier;
+mod words;
+
+pub use verifier::{Accepted, Refusal, verify};
