@@ -1,5 +1,5 @@
 -- Intel HEX: the texts that stand for an image, and the text of an image as it is written.
-use Rattle.std.specs.Prelude.{◌≡◌, ◌⊎◌, ℕ, ◌+◌, ◌-◌, ◌*◌, ◌/◌, ◌%◌, ◌≤◌, nat_le, nat_lt, nat_eq, ◌==◌, ◌&&◌, if◌then◌else◌, List, [], ◌∷◌, ◌++◌, length, map, sum, All, Option, Some, None, option_and_then}
+use Rattle.std.specs.Prelude.{◌≡◌, ◌⊎◌, ℕ, ◌+◌, ◌-◌, ◌*◌, ◌/◌, ◌%◌, ◌≤◌, nat_le, nat_lt, nat_eq, ◌==◌, ◌&&◌, if◌then◌else◌, List, [], ◌∷◌, ◌++◌, length, map, sum, All, Option, Some, None, option_and_then, option_map}
 use Rattle.std.specs.List.{flat_map, AllZip, IsDistinct}
 use Rattle.std.specs.Str.Lines.{lines}
 use Rattle.std.specs.FinMap as maps
@@ -41,13 +41,15 @@ digit_value c =
     (if nat_le 65 c && nat_le c 70 then Some (c - 55) else
     (if nat_le 97 c && nat_le c 102 then Some (c - 87) else None))
 
+-- the byte that two digits spell
+abbrev pub byte_of : ℕ → ℕ → Option ℕ
+byte_of high low = option_and_then (λ h. option_map (λ l. 16 * h + l) (digit_value low)) (digit_value high)
+
 -- the bytes that digits spell, two for each byte
 unfoldable pub bytes_of : List ℕ → Option (List ℕ)
 bytes_of [] = Some []
 bytes_of (high ∷ []) = None
-bytes_of (high ∷ low ∷ digits) =
-    option_and_then (λ h. option_and_then (λ l. option_and_then (λ bytes. Some ((16 * h + l) ∷ bytes))
-    (bytes_of digits)) (digit_value low)) (digit_value high)
+bytes_of (high ∷ low ∷ digits) = option_and_then (λ byte. option_map (λ bytes. byte ∷ bytes) (bytes_of digits)) (byte_of high low)
 
 -- the bytes that a line spells: a colon, and their digits
 abbrev pub line_bytes : List ℕ → Option (List ℕ)

@@ -6,6 +6,13 @@ pub const DATA: u8 = 0;
 /// The type of the end record.
 pub const END: u8 = 1;
 
+/// What a line holds.
+#[derive(Debug, Drop)]
+pub enum Record {
+    Data { address: u16, bytes: Vec<u8> },
+    End,
+}
+
 /// The sum of the bytes modulo 256.
 pub fn low_sum(bytes: &[u8]) -> u8
     ensures { result ≡ sum bytes.now % 256 }
