@@ -1,0 +1,71 @@
+-- Why a text stands for no image: the lowest line that breaks it, in the first way in which that line does.
+use Rattle.std.specs.Prelude.{◌≡◌, ◌≢◌, ℕ, ◌+◌, List, [], ◌∷◌, ◌++◌, length, All}
+use Rattle.std.specs.List.{AllZip}
+use Rattle.std.specs.Str.Lines.{lines}
+use Rattle.sp_hex.specs.declared.refusal.HexRefusal.{HexRefusal}
+use Rattle.sp_hex.specs.declared.refusal.HexRefusal.TheVariants as refusals
+use Rattle.sp_hex.specs.Hex.{Data, HasForm, HasSum, IsDataLine, IsEndLine, NoneTwice}
+
+-- the text has the line at this number, counted from 1; the lines before it are data records, and give no address twice
+pub record Reaches (text : List ℕ) (number : ℕ) (line : List ℕ) (records : List Data) : Type 0 where
+  pub before : List (List ℕ)
+  pub after : List (List ℕ)
+  pub whole : lines text ≡ before ++ line ∷ after
+  pub place : number ≡ length before + 1
+  pub each : AllZip IsDataLine before records
+  pub apart : NoneTwice records
+
+-- the line hasn't the form of a record
+pub record BadRecordAt (text : List ℕ) (number : ℕ) : Type 0 where
+  pub line : List ℕ
+  pub records : List Data
+  pub reached : Reaches text number line records
+  pub broken : ¬ HasForm line
+
+-- the line has the form of a record, and not the sum
+pub record BadSumAt (text : List ℕ) (number : ℕ) : Type 0 where
+  pub line : List ℕ
+  pub records : List Data
+  pub reached : Reaches text number line records
+  pub form : HasForm line
+  pub broken : ¬ HasSum line
+
+-- the line is a data record, and with it an address is given twice
+pub record OverlapAt (text : List ℕ) (number : ℕ) : Type 0 where
+  pub line : List ℕ
+  pub records : List Data
+  pub last : Data
+  pub reached : Reaches text number line records
+  pub right : IsDataLine line last
+  pub broken : ¬ NoneTwice (records ++ last ∷ [])
+
+-- the line isn't empty, and stands behind an end record, with nothing but empty lines between them
+pub record AfterEndAt (text : List ℕ) (number : ℕ) : Type 0 where
+  pub last : List ℕ
+  pub records : List Data
+  pub before : List (List ℕ)
+  pub between : List (List ℕ)
+  pub line : List ℕ
+  pub after : List (List ℕ)
+  pub whole : lines text ≡ before ++ last ∷ (between ++ line ∷ after)
+  pub place : number ≡ length before + 1 + (length between + 1)
+  pub each : AllZip IsDataLine before records
+  pub apart : NoneTwice records
+  pub ended : IsEndLine last
+  pub empty : All (λ l. l ≡ []) between
+  pub broken : line ≢ []
+
+-- all lines are data records, and give no address twice
+pub record NoEndIn (text : List ℕ) : Type 0 where
+  pub records : List Data
+  pub each : AllZip IsDataLine (lines text) records
+  pub apart : NoneTwice records
+
+-- what a refusal says of the text; want of memory says nothing, and no text is a cause of it
+abbrev pub IsCause : List ℕ → HexRefusal → Type 0
+IsCause text (refusals.BadRecord line) = BadRecordAt text line.0
+IsCause text (refusals.BadSum line) = BadSumAt text line.0
+IsCause text (refusals.Overlap line) = OverlapAt text line.0
+IsCause text refusals.NoEnd = NoEndIn text
+IsCause text (refusals.AfterEnd line) = AfterEndAt text line.0
+IsCause text refusals.Memory = ⊥

@@ -1,0 +1,15 @@
+//! Intel HEX, both ways: an image as a text of records, and the image that such a text stands for.
+#![tactic(auto)]
+
+mod lines;
+mod reading;
+mod record;
+mod refusal;
+mod writing;
+
+pub use reading::read;
+pub use refusal::HexRefusal;
+pub use writing::write;
+
+#[cfg(test)]
+mod tests;

@@ -1,0 +1,186 @@
+ghost use Rattle.std.specs.Prelude.{◌<◌, length};
+
+use crate::{HexRefusal, read, write};
+use sp_base::{Image, Line};
+use std::alloc::Global;
+use std::process::Abort;
+use std::test::Fail;
+
+/// Writes the bytes from an address on, and compares the text.
+fn check_written(
+    rt: &impl Abort,
+    alloc: Global,
+    address: u16,
+    bytes: &[u8],
+    text: &str,
+) -> Result<(), Fail> {
+    let mut image = Image::new(alloc);
+    let mut a = address;
+    for byte in bytes {
+        image.set(a, *byte)?;
+        a = a.wrapping_add(1);
+    }
+    assert_eq!(rt; write(alloc, &image)?.as_slice(), text.as_bytes());
+    Ok(())
+}
+
+#[test]
+fn runs_are_written_in_records_of_16_bytes(rt: HostRuntime) -> Result<(), Fail> {
+    let alloc = rt.alloc();
+    check_written(&rt, alloc, 0, b"", ":00000001FF\n")?;
+    check_written(
+        &rt,
+        alloc,
+        0,
+        &[0x3e, 5, 0xc9],
+        ":030000003E05C9F1\n:00000001FF\n",
+    )?;
+    check_written(
+        &rt,
+        alloc,
+        0,
+        &[5, 0xc2, 0, 0, 0xc9],
+        ":0500000005C20000C96B\n:00000001FF\n",
+    )?;
+    check_written(
+        &rt,
+        alloc,
+        0,
+        &[
+            0x21, 0, 0x20, 6, 0x10, 0xaf, 0x77, 0x23, 5, 0xc2, 6, 0, 0xc9,
+        ],
+        ":0D0000002100200610AF772305C20600C9BD\n:00000001FF\n",
+    )?;
+    check_written(&rt, alloc, 0, &[0xff], ":01000000FF00\n:00000001FF\n")?;
+    check_written(&rt, alloc, 0xffff, &[1], ":01FFFF000100\n:00000001FF\n")?;
+    check_written(
+        &rt,
+        alloc,
+        0,
+        &[b'A'; 17],
+        ":1000000041414141414141414141414141414141E0\n:0100100041AE\n:00000001FF\n",
+    )?;
+    check_written(
+        &rt,
+        alloc,
+        0xffff,
+        &[1, 2],
+        ":0100000002FD\n:01FFFF000100\n:00000001FF\n",
+    )?;
+    check_written(
+        &rt,
+        alloc,
+        0x1234,
+        &[0x10; 16],
+        ":1012340010101010101010101010101010101010AA\n:00000001FF\n",
+    )
+}
+
+/// Reads a text that stands for these bytes from address 0 on.
+fn check_read(rt: &impl Abort, alloc: Global, text: &str, bytes: &[u8]) -> Result<(), Fail>
+    requires { length text.now < 4294967295 }
+{
+    let image = read(alloc, text.as_bytes())?;
+    assert_eq!(rt; image.len() as usize, bytes.len(), "{text}");
+    let mut a = 0u16;
+    for byte in bytes {
+        assert_eq!(rt; image.get(a), Some(*byte), "{text}");
+        a = a.wrapping_add(1);
+    }
+    Ok(())
+}
+
+#[test]
+fn a_text_is_read(rt: HostRuntime) -> Result<(), Fail> {
+    let alloc = rt.alloc();
+    let texts = [
+        ":00000001FF",
+        ":00123401B9\n",
+        ":00000001FF\n\n\r\n\n",
+        ":0000000000\n:00123400BA\n:00FFFF0002\n:00000001FF",
+    ];
+    for text in texts {
+        check_read(&rt, alloc, text, b"")?;
+    }
+    let texts = [
+        ":030000003E05C9F1\n:00000001FF\n",
+        ":030000003E05C9F1\n:00000001FF",
+        ":030000003e05c9f1\r\n:00000001ff\r\n",
+        ":01000200C934\n:020000003e05BB\n:00000001fF",
+    ];
+    for text in texts {
+        check_read(&rt, alloc, text, &[0x3e, 5, 0xc9])?;
+    }
+    Ok(())
+}
+
+#[test]
+fn a_text_is_refused_at_its_lowest_line(rt: HostRuntime) {
+    let alloc = rt.alloc();
+    let no_records = [
+        "\n:00000001FF",
+        ":",
+        ":030000003",
+        "0100000008F7",
+        ":0100000008F",
+        ":01000000G8F7",
+        ":0200000008F6",
+        ":0000000008F8",
+        ":0200000008F7",
+        ":0100000108F6",
+        ":020000021000EC",
+        ":0400000300003800C1",
+        ":020000040800F2",
+        ":04000005000000CD2A",
+        ":000000FF01",
+        ":02FFFF000102FD",
+        ":0100000008F7\r:00000001FF\n",
+        ":00000001FF\r",
+        " :00000001FF",
+        ":00000001FF ",
+        ":0000000G\n:0100000008F8",
+    ];
+    for text in no_records {
+        assert_eq!(rt;
+            read(alloc, text.as_bytes()).err(),
+            Some(HexRefusal::BadRecord(Line(1))),
+            "{text}"
+        );
+    }
+    let refused = [
+        ("", HexRefusal::NoEnd),
+        (":0100000008F7", HexRefusal::NoEnd),
+        (":0100000008F7\n", HexRefusal::NoEnd),
+        (":0100000008F8", HexRefusal::BadSum(Line(1))),
+        (":00000001FE", HexRefusal::BadSum(Line(1))),
+        (":0100000008F8\nx", HexRefusal::BadSum(Line(1))),
+        (":0100000008F7\n:0100000008F8", HexRefusal::BadSum(Line(2))),
+        (
+            ":0100000008F7\n:0100000008F7\n:00000001FF",
+            HexRefusal::Overlap(Line(2)),
+        ),
+        (
+            ":0100010008F6\r\n:020000000708EF\r\nx",
+            HexRefusal::Overlap(Line(2)),
+        ),
+        (":00000001FF\nx", HexRefusal::AfterEnd(Line(2))),
+        (":00000001FF\n \n", HexRefusal::AfterEnd(Line(2))),
+        (":00000001FF\n\n:00000001FF", HexRefusal::AfterEnd(Line(3))),
+        (
+            ":0100000008F7\n:00000001FF\n:0100000008F7\n:00000001FF\n",
+            HexRefusal::AfterEnd(Line(3)),
+        ),
+    ];
+    for (text, refusal) in refused {
+        assert_eq!(rt; read(alloc, text.as_bytes()).err(), Some(refusal), "{text}");
+    }
+}
+
+#[test]
+fn a_cut_text_is_refused(rt: HostRuntime) {
+    let text = b":030000003E05C9F1\n:00000001FF\n";
+    for kept in 0..text.len() {
+        let image = read(rt.alloc(), &text[..kept]);
+        assert_eq!(rt; image.is_ok(), kept == 29);
+    }
+}
