@@ -111,3 +111,7 @@ open_condition source scripts name r e unmet none named =
       named = named ∙ sym (ap (λ (q : Reading). q.name) f.same);
       unmet = λ h. falsehood (sym (meets_true r (subst Meets f.same h)) ∙ unmet);
     }
+
+-- two forms of a source say the same
+pub one_reading : (source : List ℕ) (f g : Form) → HasForm source f → HasForm source g → reading_of f ≡ reading_of g
+one_reading source f g h k = same_some (reading_of f) (reading_of g) (sym (read_form source f h) ∙ read_form source g k)

@@ -40,3 +40,7 @@ pub record IsAccepted (source scripts : List ℕ) : Type 0 where
   pub of_source : HasForm source form
   pub no_scripts : scripts ≡ []
   pub met : Meets (reading_of form)
+
+-- two forms of a source say the same, so that it has one unit
+abbrev pub HasOneReading : Type 0
+HasOneReading = (source : List ℕ) (f g : Form) → HasForm source f → HasForm source g → reading_of f ≡ reading_of g

@@ -8,4 +8,4 @@ mod verdict;
 mod verifier;
 mod words;
 
-pub use verifier::{Accepted, Refusal, verify};
+pub use verifier::{Accepted, Refusal, a_source_has_one_reading, verify};

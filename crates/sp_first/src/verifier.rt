@@ -1,6 +1,6 @@
 ghost use Rattle.std.specs.Prelude.{◌≡◌, ℕ, List, [], IfOk, IsErrOf, Err};
 ghost use Rattle.sp_first.specs.Counts.{HasCounts};
-ghost use Rattle.sp_first.specs.Right.{IsRight, IsTheImage, IsNotBuilt, IsOpen, IsAccepted};
+ghost use Rattle.sp_first.specs.Right.{IsTheImage, HasOneReading, IsNotBuilt, IsOpen, IsAccepted};
 
 use crate::image::image_of;
 use crate::source::{FormRefusal, read_source};
@@ -70,4 +70,10 @@ pub fn verify(alloc: Global, source: &[u8], scripts: &[u8]) -> Result<Accepted, 
         simplified: 1,
         scripted: 0,
     })
+}
+
+/// Two forms of a source say the same, so that a source has one unit.
+pub fn a_source_has_one_reading()
+    ensures { HasOneReading }
+{
 }

@@ -1,0 +1,9 @@
+pub mod After
+pub mod Command
+pub mod Ends
+pub mod Refusal
+pub mod Space
+pub mod Status
+pub mod Stop
+pub mod StopOf
+pub mod Texts
