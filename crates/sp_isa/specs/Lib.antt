@@ -1,3 +1,4 @@
 pub mod Code
 pub mod Core
 pub mod Effect
+pub mod Step

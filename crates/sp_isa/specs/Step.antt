@@ -1,0 +1,19 @@
+-- One step of the processor (8080 manual, "Computer program representation in memory").
+use Rattle.std.specs.Prelude.{ℕ, ◌+◌, Option, Some, None, if◌then◌else◌}
+use Rattle.sp_isa.specs.declared.instr.Instr.{Instr}
+use Rattle.sp_isa.specs.Code.{decode}
+use Rattle.sp_isa.specs.Core.{Core, cell}
+use Rattle.sp_isa.specs.Effect.{effect}
+
+-- the instruction that begins at an address, and its length, if there is one
+abbrev pub instr_at : ℕ → Core → Option (Instr × ℕ)
+instr_at address core = decode (cell address core) (cell (address + 1) core) (cell (address + 2) core)
+
+-- the core after the instruction at its program counter; where there is none it is stuck, and stays
+abbrev pub after : ℕ → Option (Instr × ℕ) → Core → Core
+after input (Some p) core = effect input p.0 core
+after input None core = core
+
+-- one step, `input` being the byte that an IN would take: a halted core stays
+unfoldable pub step : ℕ → Core → Core
+step input core = if core.halted then core else after input (instr_at core.pc core) core

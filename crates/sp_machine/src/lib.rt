@@ -1,0 +1,12 @@
+//! The 8080 as a machine that runs: registers, flags, the stack pointer, the program counter and 65,536 cells of memory.
+#![tactic(auto)]
+
+mod event;
+mod execute;
+mod machine;
+
+pub use event::Event;
+pub use machine::Machine;
+
+#[cfg(test)]
+mod tests;
