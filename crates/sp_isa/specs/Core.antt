@@ -1,5 +1,5 @@
 -- The core of the 8080: registers, flags, stack pointer, program counter, memory, and whether it is halted.
-use Rattle.std.specs.Prelude.{◌≡◌, ℕ, ◌+◌, ◌*◌, ◌%◌, ◌<◌, ◌≤◌, Bool, false, List, All, length, slice_index, slice_set, ⊤}
+use Rattle.std.specs.Prelude.{◌≡◌, ℕ, ◌+◌, ◌*◌, ◌%◌, ◌<◌, Bool, false, List, All, length, slice_index, slice_set, ⊤}
 use Rattle.sp_base.specs.declared.location.Reg.{Reg}
 use Rattle.sp_base.specs.declared.location.Reg.TheVariants as reg
 use Rattle.sp_base.specs.declared.location.Loc.{Loc}
@@ -129,3 +129,12 @@ with_flag loc.Ac v core = record core { ac = v }
 with_flag loc.P v core = record core { p = v }
 with_flag loc.Cy v core = record core { cy = v }
 with_flag _ v core = core
+
+-- the core with its state of rest changed
+unfoldable pub with_halted : Bool → Core → Core
+with_halted v core = record core { halted = v }
+
+-- the program counter goes on by the instruction's length
+unfoldable pub advance : ℕ → Core → Core
+unfolding with_pc
+advance n core = with_pc (core.pc + n) core

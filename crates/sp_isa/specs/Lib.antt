@@ -1,4 +1,9 @@
+pub mod Arithmetic
 pub mod Code
 pub mod Core
+pub mod Decode
 pub mod Effect
+pub mod Encoding
+pub mod Operands
+pub mod Stack
 pub mod Step

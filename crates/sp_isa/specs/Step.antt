@@ -1,7 +1,7 @@
 -- One step of the processor (8080 manual, "Computer program representation in memory").
 use Rattle.std.specs.Prelude.{ℕ, ◌+◌, Option, Some, None, if◌then◌else◌}
 use Rattle.sp_isa.specs.declared.instr.Instr.{Instr}
-use Rattle.sp_isa.specs.Code.{decode}
+use Rattle.sp_isa.specs.Decode.{decode}
 use Rattle.sp_isa.specs.Core.{Core, cell}
 use Rattle.sp_isa.specs.Effect.{effect}
 

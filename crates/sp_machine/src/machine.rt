@@ -1,5 +1,5 @@
-ghost use Rattle.std.specs.Prelude.{◌≡◌, ◌<◌, ◌≤◌, IfOk, ⊤};
-ghost use Rattle.sp_isa.specs.Core.{IsCore, IsBlank, IsFlag, at, reg_of, cell, with_reg, with_flag, with_sp, with_pc, with_cell};
+ghost use Rattle.std.specs.Prelude.{◌≡◌, ◌≤◌, IfOk, true};
+ghost use Rattle.sp_isa.specs.Core.{IsCore, IsBlank, IsFlag, at, reg_of, cell, with_reg, with_flag, with_sp, with_pc, with_cell, with_halted};
 
 use sp_base::{Loc, Memory, Reg};
 use std::alloc::Global;
@@ -203,5 +203,12 @@ impl Machine {
         ensures { self.new ≡ with_cell a v self.old }
     {
         self.cells[a as usize] = v;
+    }
+
+    #[tactic(auto, unfolding(sp_isa::specs::Core::with_halted))]
+    pub(crate) fn halt(&mut self)
+        ensures { self.new ≡ with_halted true self.old }
+    {
+        self.halted = true;
     }
 }
