@@ -9,63 +9,15 @@ use Rattle.std.proofs.lemmas.List.{append-nil}
 use Rattle.std.proofs.lemmas.Bool.{false≢true}
 use Rattle.std.proofs.lemmas.Bool.Decides.{nat_tests}
 use Rattle.sp_base.specs.declared.location.Reg.TheVariants as reg
-use Rattle.sp_base.specs.declared.pair.Pair.{Pair}
-use Rattle.sp_base.specs.declared.pair.Pair.TheVariants as pair
 use Rattle.sp_isa.specs.declared.instr.Arg.{Arg}
 use Rattle.sp_isa.specs.declared.instr.Arg.TheVariants as arg
-use Rattle.sp_isa.specs.declared.instr.StackPair.{StackPair}
-use Rattle.sp_isa.specs.declared.instr.StackPair.TheVariants as stack
-use Rattle.sp_isa.specs.declared.instr.Cond.{Cond}
-use Rattle.sp_isa.specs.declared.instr.Cond.TheVariants as when
 use Rattle.sp_isa.specs.declared.instr.Op.{Op}
 use Rattle.sp_isa.specs.declared.instr.Op.TheVariants as op
 use Rattle.sp_isa.specs.declared.instr.Instr.{Instr}
 use Rattle.sp_isa.specs.declared.instr.Instr.TheVariants.{Mov, Mvi, Inr, Dcr, Alu, AluImmediate, Lxi, Dad, Inx, Dcx, Stax, Ldax, Shld, Lhld, Sta, Lda, Push, Pop, Jmp, Jcc, Call, Ccc, Rcc, Rst, In, Out}
+use Rattle.sp_isa.proofs.Cases.{each_arg, each_pair, each_stack, each_cond, each_op}
 use Rattle.sp_isa.specs.Code.{valid, opcode, operand, code, bytes_of, Begins}
 use Rattle.sp_isa.specs.Decode.{form, with_operand, decode, decode_front, unused, DecodesTheTable, DecodesCodes, NoCodeBeginsAnother, NothingDecodes}
-
--- what holds for each value
-each_arg : (P : Arg → Type 0) → P (arg.Reg reg.B) → P (arg.Reg reg.C) → P (arg.Reg reg.D) → P (arg.Reg reg.E) → P (arg.Reg reg.H) → P (arg.Reg reg.L) → P arg.M → P (arg.Reg reg.A) → (x : Arg) → P x
-each_arg P p0 p1 p2 p3 p4 p5 p6 p7 (arg.Reg reg.B) = p0
-each_arg P p0 p1 p2 p3 p4 p5 p6 p7 (arg.Reg reg.C) = p1
-each_arg P p0 p1 p2 p3 p4 p5 p6 p7 (arg.Reg reg.D) = p2
-each_arg P p0 p1 p2 p3 p4 p5 p6 p7 (arg.Reg reg.E) = p3
-each_arg P p0 p1 p2 p3 p4 p5 p6 p7 (arg.Reg reg.H) = p4
-each_arg P p0 p1 p2 p3 p4 p5 p6 p7 (arg.Reg reg.L) = p5
-each_arg P p0 p1 p2 p3 p4 p5 p6 p7 arg.M = p6
-each_arg P p0 p1 p2 p3 p4 p5 p6 p7 (arg.Reg reg.A) = p7
-
-each_pair : (P : Pair → Type 0) → P pair.B → P pair.D → P pair.H → P pair.Sp → (x : Pair) → P x
-each_pair P p0 p1 p2 p3 pair.B = p0
-each_pair P p0 p1 p2 p3 pair.D = p1
-each_pair P p0 p1 p2 p3 pair.H = p2
-each_pair P p0 p1 p2 p3 pair.Sp = p3
-
-each_stack : (P : StackPair → Type 0) → P stack.B → P stack.D → P stack.H → P stack.Psw → (x : StackPair) → P x
-each_stack P p0 p1 p2 p3 stack.B = p0
-each_stack P p0 p1 p2 p3 stack.D = p1
-each_stack P p0 p1 p2 p3 stack.H = p2
-each_stack P p0 p1 p2 p3 stack.Psw = p3
-
-each_cond : (P : Cond → Type 0) → P when.Nz → P when.Z → P when.Nc → P when.C → P when.Po → P when.Pe → P when.P → P when.M → (x : Cond) → P x
-each_cond P p0 p1 p2 p3 p4 p5 p6 p7 when.Nz = p0
-each_cond P p0 p1 p2 p3 p4 p5 p6 p7 when.Z = p1
-each_cond P p0 p1 p2 p3 p4 p5 p6 p7 when.Nc = p2
-each_cond P p0 p1 p2 p3 p4 p5 p6 p7 when.C = p3
-each_cond P p0 p1 p2 p3 p4 p5 p6 p7 when.Po = p4
-each_cond P p0 p1 p2 p3 p4 p5 p6 p7 when.Pe = p5
-each_cond P p0 p1 p2 p3 p4 p5 p6 p7 when.P = p6
-each_cond P p0 p1 p2 p3 p4 p5 p6 p7 when.M = p7
-
-each_op : (P : Op → Type 0) → P op.Add → P op.Adc → P op.Sub → P op.Sbb → P op.Ana → P op.Xra → P op.Ora → P op.Cmp → (x : Op) → P x
-each_op P p0 p1 p2 p3 p4 p5 p6 p7 op.Add = p0
-each_op P p0 p1 p2 p3 p4 p5 p6 p7 op.Adc = p1
-each_op P p0 p1 p2 p3 p4 p5 p6 p7 op.Sub = p2
-each_op P p0 p1 p2 p3 p4 p5 p6 p7 op.Sbb = p3
-each_op P p0 p1 p2 p3 p4 p5 p6 p7 op.Ana = p4
-each_op P p0 p1 p2 p3 p4 p5 p6 p7 op.Xra = p5
-each_op P p0 p1 p2 p3 p4 p5 p6 p7 op.Ora = p6
-each_op P p0 p1 p2 p3 p4 p5 p6 p7 op.Cmp = p7
 
 -- what a test finds of each number below another
 abbrev all_below : (ℕ → Bool) → ℕ → Bool

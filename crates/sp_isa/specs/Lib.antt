@@ -4,6 +4,7 @@ pub mod Core
 pub mod Decode
 pub mod Effect
 pub mod Encoding
+pub mod Locations
 pub mod Operands
 pub mod Stack
 pub mod Step

@@ -1,8 +1,9 @@
 -- One step of the processor (8080 manual, "Computer program representation in memory").
-use Rattle.std.specs.Prelude.{ℕ, ◌+◌, Option, Some, None, if◌then◌else◌}
+use Rattle.std.specs.Prelude.{ℕ, ◌+◌, ◌<◌, All, Option, Some, None, if◌then◌else◌}
 use Rattle.sp_isa.specs.declared.instr.Instr.{Instr}
 use Rattle.sp_isa.specs.Decode.{decode}
-use Rattle.sp_isa.specs.Core.{Core, cell}
+use Rattle.sp_isa.specs.Code.{operand}
+use Rattle.sp_isa.specs.Core.{Core, IsCore, cell}
 use Rattle.sp_isa.specs.Effect.{effect}
 
 -- the instruction that begins at an address, and its length, if there is one
@@ -17,3 +18,12 @@ after input None core = core
 -- one step, `input` being the byte that an IN would take: a halted core stays
 unfoldable pub step : ℕ → Core → Core
 step input core = if core.halted then core else after input (instr_at core.pc core) core
+
+-- an instruction whose operand bytes are bytes keeps each part of the core in its range
+abbrev pub EffectsKeepCores : Type 0
+EffectsKeepCores =
+    (input : ℕ) (i : Instr) (core : Core) → input < 256 → All (λ byte. byte < 256) (operand i) → IsCore core → IsCore (effect input i core)
+
+-- so does a step
+abbrev pub StepsKeepCores : Type 0
+StepsKeepCores = (input : ℕ) (core : Core) → input < 256 → IsCore core → IsCore (step input core)
