@@ -23,3 +23,6 @@ pub use instr::{Arg, Cond, Instr, Op, StackPair};
 pub use reading::reads;
 pub use validity::valid;
 pub use writing::{instructions_change_their_writes_alone, writes, writes_depend_on_reads_alone};
+
+#[cfg(test)]
+mod tests;
