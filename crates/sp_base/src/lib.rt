@@ -6,19 +6,23 @@ mod files;
 mod image;
 mod line;
 mod location;
+mod locs;
 mod memory;
 mod memory_files;
 mod memory_sink;
 mod name;
+mod pair;
 
 pub use files::{Files, ReadRefusal, Sink, WriteRefusal};
 pub use image::Image;
 pub use line::Line;
 pub use location::{Loc, Reg};
+pub use locs::Locs;
 pub use memory::Memory;
 pub use memory_files::MemFiles;
 pub use memory_sink::MemSink;
 pub use name::Name;
+pub use pair::Pair;
 
 #[cfg(test)]
 mod tests;

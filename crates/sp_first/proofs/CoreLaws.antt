@@ -1,5 +1,5 @@
 -- What a changed part of the core leaves as it was.
-use Rattle.std.proofs.Common.{◌≡◌, ℕ, ◌+◌, ◌%◌, refl, cond, ◌⊎◌, inl, inr}
+use Rattle.std.proofs.Common.{◌≡◌, ℕ, refl, cond, ◌⊎◌, inl, inr}
 use Rattle.sp_base.specs.declared.location.Reg.{Reg}
 use Rattle.sp_base.specs.declared.location.Reg.TheVariants as reg
 use Rattle.sp_base.specs.declared.location.Loc.{Loc}

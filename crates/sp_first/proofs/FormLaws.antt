@@ -1,5 +1,5 @@
 -- A source has a form exactly where it is read, and what is read is what the form says.
-use Rattle.std.proofs.Common.{◌≡◌, ℕ, zero, suc, get_or, ◌+◌, ◌<◌, ◌≤◌, Bool, true, false, cond, ◌&&◌, List, [], ◌∷◌, ◌++◌, length, map, refl, sym, ap, subst, ◌∙◌, Some, None, arith, ◌⊎◌, inl, inr}
+use Rattle.std.proofs.Common.{◌≡◌, ℕ, zero, suc, get_or, ◌<◌, ◌≤◌, true, false, cond, ◌&&◌, List, [], ◌∷◌, ◌++◌, length, map, refl, sym, ap, subst, ◌∙◌, Some, None, arith, ◌⊎◌, inl, inr}
 use Rattle.std.specs.Prelude.{Option, option_and_then, nat_le, bytes_eq, codes, is_some, Contains, if◌then◌else◌, ◌==◌}
 use Rattle.std.specs.List.{list_all, AllByRecursion}
 use Rattle.std.proofs.lemmas.Option.{cond_some}
@@ -7,15 +7,15 @@ use Rattle.std.proofs.lemmas.List.{length-map}
 use Rattle.std.proofs.lemmas.Bool.Decides.{nat_tests}
 use Rattle.sp_base.specs.declared.location.Reg.{Reg}
 use Rattle.sp_base.specs.declared.location.Reg.TheVariants as reg
-use Rattle.sp_isa.specs.declared.instr.Instr.{Instr}
-use Rattle.sp_isa.specs.declared.instr.Instr.TheVariants.{Mov, Mvi, Ret}
+use Rattle.sp_first.specs.declared.transfer.Transfer.{Transfer}
+use Rattle.sp_first.specs.declared.transfer.Transfer.TheVariants.{Mvi, Mov}
 use Rattle.sp_isa.specs.Code.{reg_code}
 use Rattle.sp_first.specs.Words.{lines, words}
 use Rattle.sp_first.specs.Form.{Form, Move, Load, Copy, reg_name, comma_list, move_words, labelled, form_words, IsRoutineName, IsNumber, IsMove, number_of, CopiesSet, HasForm}
-use Rattle.sp_first.specs.Program.{Reading, instr_of, reading_of, same_reg, last_value}
-use Rattle.sp_first.specs.Reading.{Line, word, at_end, literal, stack_line, routine_line, post_line, changes_line, move_line, is_words, is_ret_line, program_lines, is_last_line, copies_set, first_line, Header, header_of, program_of, reading_of_words, is_short, read_source, register, number, is_routine_name}
-use Rattle.sp_first.proofs.Steps.{bytes_eq-refl, same_bytes, both, and_true, both3, and3_true, le_true, le_from_true, all_true, all_from_true, step_some, mapped_some, chosen_some, same_some, literal_is, literal_some, at_end_nil, word_some}
-use Rattle.sp_first.proofs.LineLaws.{reg_named_is, register_is, number_is, is_number_true, is_routine_name_true, stack_line_some, routine_line_some, post_line_some, changes_line_is, changes_line_some, move_line_is, move_line_some}
+use Rattle.sp_first.specs.Program.{Reading, transfer_of, reading_of, same_reg, last_value}
+use Rattle.sp_first.specs.Reading.{Line, literal, stack_line, routine_line, post_line, changes_line, move_line, is_words, is_ret_line, program_lines, is_last_line, copies_set, first_line, Header, header_of, program_of, reading_of_words, is_short, read_source, register, number}
+use Rattle.sp_first.proofs.Steps.{same_bytes, both, and_true, both3, and3_true, le_true, le_from_true, all_true, all_from_true, step_some, chosen_some, same_some, literal_is, literal_some, at_end_nil}
+use Rattle.sp_first.proofs.LineLaws.{reg_named_is, is_number_true, is_routine_name_true, stack_line_some, routine_line_some, post_line_some, changes_line_is, changes_line_some, move_line_is, move_line_some}
 
 -- ---- the lines of the program
 ret_line : Line
@@ -32,7 +32,7 @@ no_ret : (m : Move) → is_ret_line (move_words m) ≡ false
 no_ret (Load to digits) = refl
 no_ret (Copy to from) = refl
 
-program_lines_is : (moves : List Move) → AllByRecursion IsMove moves → program_lines (body moves) ≡ Some (map instr_of moves, (codes ";#" ∷ codes "end" ∷ []) ∷ [])
+program_lines_is : (moves : List Move) → AllByRecursion IsMove moves → program_lines (body moves) ≡ Some (map transfer_of moves, (codes ";#" ∷ codes "end" ∷ []) ∷ [])
 program_lines_is [] h = refl
 program_lines_is (m ∷ moves) h = rw (no_ret m, move_line_is m h.0, program_lines_is moves h.1) refl
 
@@ -49,23 +49,23 @@ is_last_line_some (line ∷ []) h = ap (λ l. l ∷ []) (is_words_some (codes ";
 is_last_line_some (line ∷ next ∷ rest) h = cc
 
 -- moves that were read
-record ReadMoves (wss : List Line) (instrs : List Instr) (below : List Line) : Type 0 where
+record ReadMoves (wss : List Line) (instrs : List Transfer) (below : List Line) : Type 0 where
   moves : List Move
   good : AllByRecursion IsMove moves
-  same : map instr_of moves ≡ instrs
+  same : map transfer_of moves ≡ instrs
   spelled : wss ≡ map move_words moves ++ (codes "RET" ∷ []) ∷ below
 
-program_lines_some : (wss : List Line) (p : List Instr × List Line) → program_lines wss ≡ Some p → ReadMoves wss p.0 p.1
+program_lines_some : (wss : List Line) (p : List Transfer × List Line) → program_lines wss ≡ Some p → ReadMoves wss p.0 p.1
 program_lines_some [] p h = cc
 program_lines_some (line ∷ rest) p h =
-    elim (is_ret_line line) as (λ b. is_ret_line line ≡ b → cond b (Some ([], rest)) (option_and_then (λ i. option_and_then (λ (q : List Instr × List Line). Some (i ∷ q.0, q.1)) (program_lines rest)) (move_line line)) ≡ Some p → ReadMoves (line ∷ rest) p.0 p.1) [
+    elim (is_ret_line line) as (λ b. is_ret_line line ≡ b → cond b (Some ([], rest)) (option_and_then (λ i. option_and_then (λ (q : List Transfer × List Line). Some (i ∷ q.0, q.1)) (program_lines rest)) (move_line line)) ≡ Some p → ReadMoves (line ∷ rest) p.0 p.1) [
       | true ↦ λ t e.
           let same = same_some ([], rest) p e in
           record {
             moves = [];
             good = tt;
-            same = ap (λ (q : List Instr × List Line). q.0) same;
-            spelled = ap (λ l. l ∷ rest) (is_words_some (codes "RET" ∷ []) line t) ∙ ap (λ (q : List Instr × List Line). (codes "RET" ∷ []) ∷ q.1) same;
+            same = ap (λ (q : List Transfer × List Line). q.0) same;
+            spelled = ap (λ l. l ∷ rest) (is_words_some (codes "RET" ∷ []) line t) ∙ ap (λ (q : List Transfer × List Line). (codes "RET" ∷ []) ∷ q.1) same;
           }
       | false ↦ λ t e.
           let i = step_some _ (move_line line) p e in
@@ -76,8 +76,8 @@ program_lines_some (line ∷ rest) p h =
           record {
             moves = m.0 ∷ more.moves;
             good = (m.1, more.good);
-            same = ap (λ j. j ∷ map instr_of more.moves) m.2 ∙ ap (λ is. i.0 ∷ is) more.same ∙ ap (λ (r : List Instr × List Line). r.0) same;
-            spelled = ap (λ l. l ∷ rest) m.3 ∙ ap (λ r. move_words m.0 ∷ r) more.spelled ∙ ap (λ (r : List Instr × List Line). move_words m.0 ∷ map move_words more.moves ++ (codes "RET" ∷ []) ∷ r.1) same;
+            same = ap (λ j. j ∷ map transfer_of more.moves) m.2 ∙ ap (λ is. i.0 ∷ is) more.same ∙ ap (λ (r : List Transfer × List Line). r.0) same;
+            spelled = ap (λ l. l ∷ rest) m.3 ∙ ap (λ r. move_words m.0 ∷ r) more.spelled ∙ ap (λ (r : List Transfer × List Line). move_words m.0 ∷ map move_words more.moves ++ (codes "RET" ∷ []) ∷ r.1) same;
           }
     ] refl h
 
@@ -124,12 +124,12 @@ pub same_reg_is : (x y : Reg) → x ≡ y → same_reg x y ≡ true
 same_reg_is x y e = ap (same_reg x) (sym e) ∙ same_reg-refl x
 
 -- the registers of the list are those that the instructions set
-record AreSet (set : List Reg) (above : List Instr) : Type 0 where
+record AreSet (set : List Reg) (above : List Transfer) : Type 0 where
   forth : (r : Reg) → Contains set r → is_some (last_value above r) ≡ true
   back : (r : Reg) → is_some (last_value above r) ≡ true → Contains set r
 
 -- one more register is set, whose value is known
-also_set : (set : List Reg) (above : List Instr) (to : Reg) (value : Option ℕ) (i : Instr) → ((r : Reg) → last_value (i ∷ above) r ≡ (if same_reg to r then value else last_value above r)) → is_some value ≡ true → AreSet set above → AreSet (to ∷ set) (i ∷ above)
+also_set : (set : List Reg) (above : List Transfer) (to : Reg) (value : Option ℕ) (i : Transfer) → ((r : Reg) → last_value (i ∷ above) r ≡ (if same_reg to r then value else last_value above r)) → is_some value ≡ true → AreSet set above → AreSet (to ∷ set) (i ∷ above)
 also_set set above to value i is known h = record {
   forth = λ r c. ap is_some (is r) ∙ elim (same_reg to r) as (λ b. same_reg to r ≡ b → is_some (cond b value (last_value above r)) ≡ true) [
     | true ↦ λ t. known
@@ -141,18 +141,18 @@ also_set set above to value i is known h = record {
   ] refl (sym (ap is_some (is r)) ∙ e);
 }
 
-load_set : (set : List Reg) (above : List Instr) (to : Reg) (byte : ℕ) → AreSet set above → AreSet (to ∷ set) (Mvi to byte ∷ above)
+load_set : (set : List Reg) (above : List Transfer) (to : Reg) (byte : ℕ) → AreSet set above → AreSet (to ∷ set) (Mvi to byte ∷ above)
 load_set set above to byte h = also_set set above to (Some byte) (Mvi to byte) (λ r. refl) refl h
 
-copy_set : (set : List Reg) (above : List Instr) (to from : Reg) → AreSet set above → Contains set from → AreSet (to ∷ set) (Mov to from ∷ above)
+copy_set : (set : List Reg) (above : List Transfer) (to from : Reg) → AreSet set above → Contains set from → AreSet (to ∷ set) (Mov to from ∷ above)
 copy_set set above to from h there = also_set set above to (last_value above from) (Mov to from) (λ r. refl) (h.forth from there) h
 
-copies_set_is : (set : List Reg) (above : List Instr) (moves : List Move) → AreSet set above → CopiesSet set moves → copies_set above (map instr_of moves) ≡ true
+copies_set_is : (set : List Reg) (above : List Transfer) (moves : List Move) → AreSet set above → CopiesSet set moves → copies_set above (map transfer_of moves) ≡ true
 copies_set_is set above [] a h = refl
 copies_set_is set above (Load to digits ∷ moves) a h = copies_set_is (to ∷ set) (Mvi to (number_of digits) ∷ above) moves (load_set set above to (number_of digits) a) h
 copies_set_is set above (Copy to from ∷ moves) a h = and_true _ _ (a.forth from h.0) (copies_set_is (to ∷ set) (Mov to from ∷ above) moves (copy_set set above to from a h.0) h.1)
 
-copies_set_some : (set : List Reg) (above : List Instr) (moves : List Move) → AreSet set above → copies_set above (map instr_of moves) ≡ true → CopiesSet set moves
+copies_set_some : (set : List Reg) (above : List Transfer) (moves : List Move) → AreSet set above → copies_set above (map transfer_of moves) ≡ true → CopiesSet set moves
 copies_set_some set above [] a h = tt
 copies_set_some set above (Load to digits ∷ moves) a h = copies_set_some (to ∷ set) (Mvi to (number_of digits) ∷ above) moves (load_set set above to (number_of digits) a) h
 copies_set_some set above (Copy to from ∷ moves) a h =
@@ -165,7 +165,7 @@ none_set = record { forth = λ r c. absurd (omega (arith, c.1)); back = λ r e. 
 
 -- ---- the program
 -- the tests behind the last line
-abbrev finish : List Instr × List Line → Option (List Instr)
+abbrev finish : List Transfer × List Line → Option (List Transfer)
 finish p = if is_last_line p.1 && nat_le (length p.0) 16 && copies_set [] p.0 then Some p.0 else None
 
 program_first : (name : List ℕ) (line : Line) (rest : List Line) → program_of name (((name ++ codes ":") ∷ line) ∷ rest) ≡ option_and_then finish (program_lines (line ∷ rest))
@@ -176,25 +176,25 @@ program_labelled : (name : List ℕ) (moves : List Move) → program_of name (la
 program_labelled name [] = program_first name _ _
 program_labelled name (m ∷ moves) = program_first name _ _
 
-program_is : (name : List ℕ) (moves : List Move) → AllByRecursion IsMove moves → length moves ≤ 16 → CopiesSet [] moves → program_of name (labelled name (body moves)) ≡ Some (map instr_of moves)
+program_is : (name : List ℕ) (moves : List Move) → AllByRecursion IsMove moves → length moves ≤ 16 → CopiesSet [] moves → program_of name (labelled name (body moves)) ≡ Some (map transfer_of moves)
 program_is name moves good few copies =
-    let short : length (map instr_of moves) ≤ 16 = omega (arith, length-map moves instr_of, few) in
+    let short : length (map transfer_of moves) ≤ 16 = omega (arith, length-map moves transfer_of, few) in
     program_labelled name moves ∙ ap (option_and_then finish) (program_lines_is moves good)
-    ∙ ap (λ b. cond b (Some (map instr_of moves)) None) (and3_true true _ _ refl (le_true (length (map instr_of moves)) 16 short) (copies_set_is [] [] moves none_set copies))
+    ∙ ap (λ b. cond b (Some (map transfer_of moves)) None) (and3_true true _ _ refl (le_true (length (map transfer_of moves)) 16 short) (copies_set_is [] [] moves none_set copies))
 
 first_line_some : (wss : List Line) (p : Line × List Line) → first_line wss ≡ Some p → wss ≡ p.0 ∷ p.1
 first_line_some [] p h = cc
 first_line_some (line ∷ rest) p h = ap (λ (q : Line × List Line). q.0 ∷ q.1) (same_some (line, rest) p h)
 
-record ReadProgram (name : List ℕ) (wss : List Line) (instrs : List Instr) : Type 0 where
+record ReadProgram (name : List ℕ) (wss : List Line) (instrs : List Transfer) : Type 0 where
   moves : List Move
   good : AllByRecursion IsMove moves
   few : length moves ≤ 16
   copies : CopiesSet [] moves
-  same : map instr_of moves ≡ instrs
+  same : map transfer_of moves ≡ instrs
   spelled : wss ≡ labelled name (body moves)
 
-program_some : (name : List ℕ) (wss : List Line) (instrs : List Instr) → program_of name wss ≡ Some instrs → ReadProgram name wss instrs
+program_some : (name : List ℕ) (wss : List Line) (instrs : List Transfer) → program_of name wss ≡ Some instrs → ReadProgram name wss instrs
 unfolding program_of
 program_some name wss instrs h =
     let l = step_some _ (first_line wss) instrs h in
@@ -207,7 +207,7 @@ program_some name wss instrs h =
     record {
       moves = read.moves;
       good = read.good;
-      few = omega (arith, length-map read.moves instr_of, ap length read.same, short);
+      few = omega (arith, length-map read.moves transfer_of, ap length read.same, short);
       copies = copies_set_some [] [] read.moves none_set (ap (copies_set []) read.same ∙ tests.2);
       same = read.same ∙ parts.1;
       spelled = first_line_some wss l.0 l.1
@@ -272,7 +272,7 @@ changes_is : (rs : List Reg) → 1 ≤ length rs → changes_line (codes ";#" �
 changes_is [] h = absurd (omega arith)
 changes_is (r ∷ rs) h = changes_line_is r rs
 
-abbrev with_program : Header → List Reg → List Instr → Option Reading
+abbrev with_program : Header → List Reg → List Transfer → Option Reading
 with_program h changes program = Some (record { name = h.name; post = h.post; value = h.value; changes = changes; program = program })
 
 abbrev with_changes : Header → List Reg → Option Reading

@@ -1,6 +1,6 @@
 -- Bytes one after another from address 0 as an image.
-use Rattle.std.proofs.Common.{◌≡◌, ◌≢◌, ℕ, zero, suc, ◌+◌, ◌-◌, ◌*◌, ◌%◌, ◌<◌, ◌≤◌, Bool, true, false, cond, List, [], ◌∷◌, ◌++◌, length, get_or, take, refl, sym, ap, subst, ◌∙◌, Some, None, arith, rules, length-append, add-zero}
-use Rattle.std.specs.Prelude.{Option, flat_map, Contains}
+use Rattle.std.proofs.Common.{◌≡◌, ℕ, zero, suc, ◌+◌, ◌*◌, ◌<◌, ◌≤◌, true, false, List, [], ◌∷◌, ◌++◌, length, get_or, take, refl, sym, ap, subst, ◌∙◌, Some, None, arith, rules, length-append, add-zero}
+use Rattle.std.specs.Prelude.{flat_map, map, Contains}
 use Rattle.std.specs.List.{enumerate_from}
 use Rattle.std.specs.Ordering.{nat_cmp, eq_by_cmp}
 use Rattle.std.specs.Cmp.{nat_cmp_total}
@@ -9,10 +9,11 @@ use Rattle.std.specs.FinMap.{find}
 use Rattle.std.proofs.lemmas.Grind.{flat_map-append}
 use Rattle.std.proofs.lemmas.List.{get_or-append-add, get_or_append_left, length-take, take_more}
 use Rattle.sp_isa.specs.declared.instr.Instr.{Instr}
-use Rattle.sp_isa.specs.declared.instr.Instr.TheVariants.{Mov, Mvi, Ret}
+use Rattle.sp_first.specs.declared.transfer.Transfer.{Transfer}
+use Rattle.sp_first.specs.declared.transfer.Transfer.TheVariants.{Mvi, Mov}
 use Rattle.sp_isa.specs.Code.{code}
 use Rattle.sp_model.specs.Unit.{Stmt}
-use Rattle.sp_first.specs.Program.{stmts_from}
+use Rattle.sp_first.specs.Program.{instr_of, stmts_from}
 
 tied : (a b : ℕ) → a ≡ b → eq_by_cmp nat_cmp a b ≡ true
 tied a b h = search rules
@@ -62,14 +63,13 @@ code_byte done i todo j h = ap (λ bytes. get_or bytes (length (flat_map code do
 pub code_within : (done : List Instr) (i : Instr) (todo : List Instr) (j : ℕ) → j < length (code i) → length (flat_map code done) + j < length (flat_map code (done ++ i ∷ todo))
 code_within done i todo j h = omega (arith, h, ap length (codes_split done i todo), length-append (flat_map code done) (code i ++ flat_map code todo), length-append (code i) (flat_map code todo))
 
-length-code : (i : Instr) → length (code i) ≤ 2
+length-code : (t : Transfer) → length (code (instr_of t)) ≤ 2
 length-code (Mov to from) = omega arith
 length-code (Mvi to byte) = omega arith
-length-code Ret = omega arith
 
-pub codes_short : (is : List Instr) → length (flat_map code is) ≤ 2 * length is
+pub codes_short : (ts : List Transfer) → length (flat_map code (map instr_of ts)) ≤ 2 * length ts
 codes_short [] = omega arith
-codes_short (i ∷ is) = omega (arith, length-append (code i) (flat_map code is), length-code i, codes_short is)
+codes_short (t ∷ ts) = omega (arith, length-append (code (instr_of t)) (flat_map code (map instr_of ts)), length-code t, codes_short ts)
 
 -- the instruction behind others stands at its address
 abbrev at_address : ℕ → Instr → Stmt

@@ -1,18 +1,18 @@
 -- The lines of the first form: each is read where it is spelled, and what is read is spelled so.
-use Rattle.std.proofs.Common.{◌≡◌, ℕ, ◌+◌, ◌-◌, ◌<◌, ◌≤◌, Bool, true, false, cond, not, ◌&&◌, ◌||◌, List, [], ◌∷◌, ◌++◌, length, map, refl, sym, ap, subst, ◌∙◌, Some, None, arith, rules}
+use Rattle.std.proofs.Common.{◌≡◌, ℕ, ◌≤◌, true, false, cond, not, ◌&&◌, List, [], ◌∷◌, length, refl, sym, ap, subst, ◌∙◌, Some, None, arith}
 use Rattle.std.specs.Prelude.{Option, option_and_then, nat_le, bytes_eq, codes, ◌==◌, if◌then◌else◌}
 use Rattle.std.specs.Option.{option_map}
-use Rattle.std.specs.List.{list_all, list_any, AllByRecursion}
+use Rattle.std.specs.List.{list_all, list_any}
 use Rattle.std.proofs.lemmas.Bool.Decides.{nat_tests}
 use Rattle.std.proofs.lemmas.Option.{cond_some}
 use Rattle.sp_base.specs.declared.location.Reg.{Reg}
 use Rattle.sp_base.specs.declared.location.Reg.TheVariants as reg
-use Rattle.sp_isa.specs.declared.instr.Instr.{Instr}
-use Rattle.sp_isa.specs.declared.instr.Instr.TheVariants.{Mov, Mvi, Ret}
+use Rattle.sp_first.specs.declared.transfer.Transfer.{Transfer}
+use Rattle.sp_first.specs.declared.transfer.Transfer.TheVariants.{Mvi, Mov}
 use Rattle.sp_first.specs.Form.{Move, Load, Copy, reg_name, comma_list, move_words, reserved, IsRoutineName, IsNumber, IsMove, number_of}
-use Rattle.sp_first.specs.Program.{instr_of}
+use Rattle.sp_first.specs.Program.{transfer_of}
 use Rattle.sp_first.specs.Reading.{Line, word, at_end, literal, lettered, reg_named, register, is_digit, is_number, number, stack_line, is_upper, is_routine_name, routine_line, post_line, more_registers, first_change, changes_line, mvi_operands, mov_operands, move_line}
-use Rattle.sp_first.proofs.Steps.{bytes_eq-refl, same_bytes, both, and_true, both3, and3_true, both4, and4_true, le_true, le_from_true, all_true, all_from_true, none_equal, none_equal_from, step_some, mapped_some, chosen_some, same_some, literal_is, literal_some, at_end_nil, word_some}
+use Rattle.sp_first.proofs.Steps.{same_bytes, both, and_true, both3, and3_true, both4, and4_true, le_true, le_from_true, all_true, all_from_true, none_equal, none_equal_from, step_some, mapped_some, chosen_some, same_some, literal_some, at_end_nil, word_some}
 
 -- ---- registers
 pub reg_named_is : (r : Reg) → reg_named (reg_name r) ≡ Some r
@@ -192,12 +192,12 @@ changes_line_some ws rs h =
     (subst (λ l. 1 ≤ length l) qs.2 (omega arith), literal_some (codes ";#") ws a.0 a.1 ∙ ap (λ rest. codes ";#" ∷ rest) b1)
 
 -- ---- moves
-pub move_line_is : (m : Move) → IsMove m → move_line (move_words m) ≡ Some (instr_of m)
+pub move_line_is : (m : Move) → IsMove m → move_line (move_words m) ≡ Some (transfer_of m)
 unfolding move_line mvi_operands mov_operands literal
 move_line_is (Load to digits) h = rw (register_is to (codes "," ∷ digits ∷ [])) (rw (number_is digits [] h.0) (rw (le_true (number_of digits) 255 h.1) refl))
 move_line_is (Copy to from) h = rw (register_is to (codes "," ∷ reg_name from ∷ [])) (rw (register_is from []) refl)
 
-mvi_operands_some : (ws : Line) (i : Instr) → mvi_operands ws ≡ Some i → (to : Reg) × (digits : List ℕ) × IsNumber digits × (number_of digits ≤ 255) × (Mvi to (number_of digits) ≡ i) × (ws ≡ reg_name to ∷ codes "," ∷ digits ∷ [])
+mvi_operands_some : (ws : Line) (i : Transfer) → mvi_operands ws ≡ Some i → (to : Reg) × (digits : List ℕ) × IsNumber digits × (number_of digits ≤ 255) × (Mvi to (number_of digits) ≡ i) × (ws ≡ reg_name to ∷ codes "," ∷ digits ∷ [])
 unfolding mvi_operands
 mvi_operands_some ws i h =
     let to = step_some _ (register ws) i h in
@@ -210,7 +210,7 @@ mvi_operands_some ws i h =
     let a1 = literal_some (codes ",") to.0.1 a.0 a.1 ∙ ap (λ rest. codes "," ∷ rest) n1 in
     (to.0.0, d.0, d.1, subst (λ v. v ≤ 255) (sym d.2) (le_from_true n.0.0 255 tests.0), ap (Mvi to.0.0) d.2 ∙ parts.1, register_some ws to.0 to.1 ∙ ap (λ rest. reg_name to.0.0 ∷ rest) a1)
 
-mov_operands_some : (ws : Line) (i : Instr) → mov_operands ws ≡ Some i → (to : Reg) × (from : Reg) × (Mov to from ≡ i) × (ws ≡ reg_name to ∷ codes "," ∷ reg_name from ∷ [])
+mov_operands_some : (ws : Line) (i : Transfer) → mov_operands ws ≡ Some i → (to : Reg) × (from : Reg) × (Mov to from ≡ i) × (ws ≡ reg_name to ∷ codes "," ∷ reg_name from ∷ [])
 unfolding mov_operands
 mov_operands_some ws i h =
     let to = step_some _ (register ws) i h in
@@ -221,11 +221,11 @@ mov_operands_some ws i h =
     let a1 = literal_some (codes ",") to.0.1 a.0 a.1 ∙ ap (λ rest. codes "," ∷ rest) f1 in
     (to.0.0, from.0.0, end.1, register_some ws to.0 to.1 ∙ ap (λ rest. reg_name to.0.0 ∷ rest) a1)
 
-pub move_line_some : (ws : Line) (i : Instr) → move_line ws ≡ Some i → (m : Move) × IsMove m × (instr_of m ≡ i) × (ws ≡ move_words m)
+pub move_line_some : (ws : Line) (i : Transfer) → move_line ws ≡ Some i → (m : Move) × IsMove m × (transfer_of m ≡ i) × (ws ≡ move_words m)
 unfolding move_line
 move_line_some ws i h =
     let w = step_some _ (word ws) i h in
-    elim (bytes_eq w.0.0 (codes "MVI")) as (λ b. bytes_eq w.0.0 (codes "MVI") ≡ b → cond b (mvi_operands w.0.1) (if bytes_eq w.0.0 (codes "MOV") then mov_operands w.0.1 else None) ≡ Some i → (m : Move) × IsMove m × (instr_of m ≡ i) × (ws ≡ move_words m)) [
+    elim (bytes_eq w.0.0 (codes "MVI")) as (λ b. bytes_eq w.0.0 (codes "MVI") ≡ b → cond b (mvi_operands w.0.1) (if bytes_eq w.0.0 (codes "MOV") then mov_operands w.0.1 else None) ≡ Some i → (m : Move) × IsMove m × (transfer_of m ≡ i) × (ws ≡ move_words m)) [
       | true ↦ λ t e.
           let o = mvi_operands_some w.0.1 i e in
           (Load o.0 o.1, (o.2, o.3), o.4, word_some ws w.0 w.1 ∙ ap (λ v. v ∷ w.0.1) (same_bytes w.0.0 (codes "MVI") t) ∙ ap (λ rest. codes "MVI" ∷ rest) o.5)

@@ -1,5 +1,5 @@
 -- Reading a list of registers, one after another.
-use Rattle.std.proofs.Common.{◌≡◌, ℕ, ◌<◌, Bool, true, false, cond, List, [], ◌∷◌, ◌++◌, length, refl, sym, ap, subst, ◌∙◌, Some, None, arith, append_assoc}
+use Rattle.std.proofs.Common.{◌≡◌, ℕ, ◌<◌, true, false, cond, List, [], ◌∷◌, ◌++◌, length, refl, sym, ap, ◌∙◌, Some, None, arith, append_assoc}
 use Rattle.std.specs.Prelude.{Option, option_and_then, bytes_eq, codes}
 use Rattle.std.specs.Option.{option_map}
 use Rattle.sp_base.specs.declared.location.Reg.{Reg}

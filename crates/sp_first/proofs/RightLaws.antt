@@ -1,20 +1,20 @@
 -- What a reading that meets its annotations says of its source.
-use Rattle.std.proofs.Common.{◌≡◌, ℕ, ◌≤◌, Bool, true, false, ◌&&◌, ◌||◌, cond, List, [], ◌∷◌, length, map, reverse, refl, sym, ap, subst, ◌∙◌, Some, None, arith, ◌⊎◌, inl, inr}
-use Rattle.std.specs.Prelude.{Option, Contains, ◌==◌, ⊤}
-use Rattle.std.specs.List.{list_all, list_any, AllByRecursion}
+use Rattle.std.proofs.Common.{◌≡◌, ℕ, ◌≤◌, Bool, true, false, ◌||◌, List, [], ◌∷◌, length, reverse, refl, sym, ap, subst, ◌∙◌, Some, None, arith, inl, inr}
+use Rattle.std.specs.Prelude.{Option, Contains}
+use Rattle.std.specs.List.{list_all, list_any}
 use Rattle.std.proofs.lemmas.List.{length-map}
 use Rattle.std.proofs.lemmas.Bool.Decides.{nat_tests}
 use Rattle.sp_base.specs.declared.location.Reg.{Reg}
 use Rattle.sp_base.specs.Image.{ImageMap}
-use Rattle.sp_isa.specs.declared.instr.Instr.{Instr}
-use Rattle.sp_isa.specs.declared.instr.Instr.TheVariants.{Mov, Mvi, Ret}
-use Rattle.sp_first.specs.Form.{Form, Move, Load, Copy, HasForm}
-use Rattle.sp_first.specs.Program.{Reading, instr_of, reading_of, image_of, unit_of, same_reg, last_value, SetsListed, Meets}
+use Rattle.sp_first.specs.declared.transfer.Transfer.{Transfer}
+use Rattle.sp_first.specs.declared.transfer.Transfer.TheVariants.{Mvi, Mov}
+use Rattle.sp_first.specs.Form.{Form, HasForm}
+use Rattle.sp_first.specs.Program.{Reading, transfer_of, reading_of, image_of, unit_of, same_reg, last_value, SetsListed, Meets}
 use Rattle.sp_first.specs.Reading.{read_source, sets_listed, has_value, meets}
-use Rattle.sp_first.specs.Right.{HasUnit, IsRight, IsTheImage, IsNotBuilt, IsOpen, IsAccepted}
+use Rattle.sp_first.specs.Right.{IsTheImage, IsNotBuilt, IsOpen, IsAccepted}
 use Rattle.sp_first.proofs.Steps.{both, and_true, all_true, all_from_true, same_some}
-use Rattle.sp_first.proofs.FormLaws.{same_reg_true, same_reg_is, contains_cons, contains_head, contains_tail, read_form, IsReadFrom, form_read}
-use Rattle.sp_first.proofs.RunLaws.{IsBeforeRet, all_runs_are_good}
+use Rattle.sp_first.proofs.FormLaws.{same_reg_true, same_reg_is, contains_cons, contains_head, contains_tail, read_form, form_read}
+use Rattle.sp_first.proofs.RunLaws.{all_runs_are_good}
 
 or_true : (a b : Bool) → b ≡ true → (a || b) ≡ true
 or_true true b h = refl
@@ -40,15 +40,13 @@ same_any to (r ∷ rs) h = elim (contains_cons r to rs h) [
   | inr g ↦ or_true (same_reg to r) _ (same_any to rs g)
 ]
 
-listed_true : (rs : List Reg) (i : Instr) → SetsListed rs i → sets_listed rs i ≡ true
+listed_true : (rs : List Reg) (i : Transfer) → SetsListed rs i → sets_listed rs i ≡ true
 listed_true rs (Mvi to byte) h = same_any to rs h
 listed_true rs (Mov to from) h = same_any to rs h
-listed_true rs Ret h = refl
 
-listed_from : (rs : List Reg) (i : Instr) → sets_listed rs i ≡ true → SetsListed rs i
+listed_from : (rs : List Reg) (i : Transfer) → sets_listed rs i ≡ true → SetsListed rs i
 listed_from rs (Mvi to byte) h = any_same to rs h
 listed_from rs (Mov to from) h = any_same to rs h
-listed_from rs Ret h = tt
 
 value_true : (o : Option ℕ) (v : ℕ) → o ≡ Some v → has_value o v ≡ true
 value_true None v h = cc
@@ -70,12 +68,7 @@ pub program_few : (source : List ℕ) (r : Reading) → read_source source ≡ S
 program_few source r e =
     let f = form_read source r e in
     let few : length f.form.moves ≤ 16 = f.has.few in
-    omega (arith, ap (λ (q : Reading). length q.program) f.same, length-map f.form.moves instr_of, few)
-
-moves_before : (moves : List Move) → AllByRecursion IsBeforeRet (map instr_of moves)
-moves_before [] = tt
-moves_before (Load to digits ∷ moves) = (tt, moves_before moves)
-moves_before (Copy to from ∷ moves) = (tt, moves_before moves)
+    omega (arith, ap (λ (q : Reading). length q.program) f.same, length-map f.form.moves transfer_of, few)
 
 pub right : (source : List ℕ) (r : Reading) (image : ImageMap) → read_source source ≡ Some r → meets r ≡ true → image ≡ image_of r → IsTheImage source image
 right source r image e met is =
@@ -85,7 +78,7 @@ right source r image e met is =
         unit = unit_of r;
         of_source = (f.form, f.has, ap unit_of (sym f.same));
         assembly = is;
-        good = all_runs_are_good r (program_few source r e) (subst (λ (q : Reading). AllByRecursion IsBeforeRet q.program) f.same (moves_before f.form.moves)) (meets_from r met);
+        good = all_runs_are_good r (program_few source r e) (meets_from r met);
       };
       only = λ other g.
           let form = g.of_source.0 in

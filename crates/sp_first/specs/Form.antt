@@ -1,5 +1,5 @@
 -- Sources of the first form: one routine that loads and copies registers and returns.
-use Rattle.std.specs.Prelude.{◌≡◌, ◌≢◌, ℕ, ◌+◌, ◌-◌, ◌*◌, ◌≤◌, ⊤, List, [], ◌∷◌, ◌++◌, map, fold, length, All, Contains, codes}
+use Rattle.std.specs.Prelude.{◌≡◌, ◌≢◌, ℕ, ◌+◌, ◌-◌, ◌*◌, ◌≤◌, ⊤, List, [], ◌∷◌, ◌++◌, map, fold, length, Contains, codes}
 use Rattle.std.specs.List.{AllByRecursion}
 use Rattle.sp_base.specs.declared.location.Reg.{Reg}
 use Rattle.sp_base.specs.declared.location.Reg.TheVariants as reg

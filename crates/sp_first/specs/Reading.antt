@@ -1,10 +1,10 @@
 -- Reading a source of the first form, from its words.
-use Rattle.std.specs.Prelude.{ℕ, ◌≤◌, Bool, true, false, ◌&&◌, ◌||◌, not, List, [], ◌∷◌, ◌++◌, length, map, reverse, codes, Option, Some, None, is_some, option_and_then, option_map, nat_le, bytes_eq, if◌then◌else◌, ◌==◌}
+use Rattle.std.specs.Prelude.{ℕ, Bool, true, false, ◌&&◌, not, List, [], ◌∷◌, ◌++◌, length, map, reverse, codes, Option, Some, None, is_some, option_and_then, option_map, nat_le, bytes_eq, if◌then◌else◌, ◌==◌}
 use Rattle.std.specs.List.{list_all, list_any}
 use Rattle.sp_base.specs.declared.location.Reg.{Reg}
 use Rattle.sp_base.specs.declared.location.Reg.TheVariants as reg
-use Rattle.sp_isa.specs.declared.instr.Instr.{Instr}
-use Rattle.sp_isa.specs.declared.instr.Instr.TheVariants.{Mov, Mvi, Ret}
+use Rattle.sp_first.specs.declared.transfer.Transfer.{Transfer}
+use Rattle.sp_first.specs.declared.transfer.Transfer.TheVariants.{Mvi, Mov}
 use Rattle.sp_first.specs.Words.{lines, words}
 use Rattle.sp_first.specs.Form.{number_of, reserved}
 use Rattle.sp_first.specs.Program.{Reading, last_value, same_reg}
@@ -112,21 +112,21 @@ changes_line ws = do
   r ← first_change ws
   option_map (λ rs. r.0 ∷ rs) (more_registers r.1)
 
-unfoldable pub mvi_operands : Line → Option Instr
+unfoldable pub mvi_operands : Line → Option Transfer
 mvi_operands ws = do
   to ← register ws
   a ← literal (codes ",") to.1
   n ← number a
   if nat_le n.0 255 && at_end n.1 then Some (Mvi to.0 n.0) else None
 
-unfoldable pub mov_operands : Line → Option Instr
+unfoldable pub mov_operands : Line → Option Transfer
 mov_operands ws = do
   to ← register ws
   a ← literal (codes ",") to.1
   from ← register a
   if at_end from.1 then Some (Mov to.0 from.0) else None
 
-unfoldable pub move_line : Line → Option Instr
+unfoldable pub move_line : Line → Option Transfer
 move_line ws = do
   w ← word ws
   if bytes_eq w.0 (codes "MVI") then mvi_operands w.1 else (if bytes_eq w.0 (codes "MOV") then mov_operands w.1 else None)
@@ -140,7 +140,7 @@ abbrev pub is_ret_line : Line → Bool
 is_ret_line ws = is_words (codes "RET" ∷ []) ws
 
 -- the instructions down to RET, and the lines below it
-abbrev pub program_lines : List Line → Option (List Instr × List Line)
+abbrev pub program_lines : List Line → Option (List Transfer × List Line)
 program_lines [] = None
 program_lines (line ∷ rest) = if is_ret_line line then Some ([], rest) else (move_line line >>= λ i. program_lines rest >>= λ p. Some (i ∷ p.0, p.1))
 
@@ -151,11 +151,10 @@ is_last_line (line ∷ []) = is_words (codes ";#" ∷ codes "end" ∷ []) line
 is_last_line (line ∷ next ∷ rest) = false
 
 -- each MOV copies a register that is set among the instructions above it, of which the last stands first
-abbrev pub copies_set : List Instr → List Instr → Bool
+abbrev pub copies_set : List Transfer → List Transfer → Bool
 copies_set above [] = true
 copies_set above (Mvi to byte ∷ is) = copies_set (Mvi to byte ∷ above) is
 copies_set above (Mov to from ∷ is) = is_some (last_value above from) && copies_set (Mov to from ∷ above) is
-copies_set above (Ret ∷ is) = copies_set (Ret ∷ above) is
 
 abbrev pub first_line : List Line → Option (Line × List Line)
 first_line [] = None
@@ -181,7 +180,7 @@ header_of all = do
   Some (record { name = name; post = post.0; value = post.1; changes = o.0; below = o.1 })
 
 -- the program, whose first line begins with the label, and the last line
-unfoldable pub program_of : List ℕ → List Line → Option (List Instr)
+unfoldable pub program_of : List ℕ → List Line → Option (List Transfer)
 program_of name all = do
   l ← first_line all
   line ← literal (name ++ codes ":") l.0
@@ -201,10 +200,9 @@ is_short line = nat_le (length line) 4096
 unfoldable pub read_source : List ℕ → Option Reading
 read_source source = if list_all is_short (lines source) then reading_of_words (map words (lines source)) else None
 
-abbrev pub sets_listed : List Reg → Instr → Bool
+abbrev pub sets_listed : List Reg → Transfer → Bool
 sets_listed listed (Mvi to byte) = list_any (same_reg to) listed
 sets_listed listed (Mov to from) = list_any (same_reg to) listed
-sets_listed listed Ret = true
 
 abbrev pub has_value : Option ℕ → ℕ → Bool
 has_value None value = false

@@ -4,6 +4,7 @@
 mod image;
 mod lines;
 mod source;
+mod transfer;
 mod verdict;
 mod verifier;
 mod words;

@@ -7,9 +7,9 @@ ghost use Rattle.sp_first.specs.Form.{number_of as decimal, reserved};
 ghost use Rattle.sp_first.specs.Reading as read;
 ghost use Rattle.sp_first.specs.Header.{header_words};
 
+use crate::transfer::Transfer;
 use crate::words::{is_at_end, next_line, next_word};
 use sp_base::{Name, Reg};
-use sp_isa::Instr;
 
 /// What is left of the line after this word, if the line begins with it.
 #[tactic(auto, unfolding(crate::specs::Reading::literal))]
@@ -180,14 +180,14 @@ pub fn post_line(line: &[u8]) -> Option<(Reg, u16)>
 
 /// The operands of an MVI.
 #[tactic(auto, unfolding(crate::specs::Reading::mvi_operands))]
-fn mvi_operands(line: &[u8]) -> Option<Instr>
+fn mvi_operands(line: &[u8]) -> Option<Transfer>
     ensures { result ≡ read.mvi_operands (words line.now) }
 {
     let (to, rest) = register(line)?;
     let rest = literal(rest, b",")?;
     let (value, rest) = number(rest)?;
     if value <= 255 && is_at_end(rest) {
-        Some(Instr::Mvi(to, value as u8))
+        Some(Transfer::Mvi(to, value as u8))
     } else {
         None
     }
@@ -195,14 +195,14 @@ fn mvi_operands(line: &[u8]) -> Option<Instr>
 
 /// The operands of a MOV.
 #[tactic(auto, unfolding(crate::specs::Reading::mov_operands))]
-fn mov_operands(line: &[u8]) -> Option<Instr>
+fn mov_operands(line: &[u8]) -> Option<Transfer>
     ensures { result ≡ read.mov_operands (words line.now) }
 {
     let (to, rest) = register(line)?;
     let rest = literal(rest, b",")?;
     let (from, rest) = register(rest)?;
     if is_at_end(rest) {
-        Some(Instr::Mov(to, from))
+        Some(Transfer::Mov(to, from))
     } else {
         None
     }
@@ -210,7 +210,7 @@ fn mov_operands(line: &[u8]) -> Option<Instr>
 
 /// A line of the program before RET.
 #[tactic(auto, unfolding(crate::specs::Reading::move_line))]
-pub fn move_line(line: &[u8]) -> Option<Instr>
+pub fn move_line(line: &[u8]) -> Option<Transfer>
     ensures { result ≡ read.move_line (words line.now) }
 {
     let (word, rest) = next_word(line)?;

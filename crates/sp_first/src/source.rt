@@ -11,9 +11,9 @@ ghost use Rattle.sp_first.specs.Program as program;
 use crate::lines::{
     first_change, is_last_line, is_ret_line, literal, move_line, next_register, read_header,
 };
+use crate::transfer::Transfer;
 use crate::words::{is_at_end, next_line};
 use sp_base::{Name, Reg};
-use sp_isa::Instr;
 use std::alloc::{AllocError, AllocFailed, Global};
 
 /// Why a source was not read.
@@ -54,7 +54,7 @@ pub struct Source {
     pub value: u16,
     pub changes: Vec<Reg>,
     /// The instructions before RET.
-    pub program: Vec<Instr>,
+    pub program: Vec<Transfer>,
 }
 
 /// Whether no line has more than 4,096 bytes.
@@ -104,7 +104,7 @@ fn program_lines<'a>(
     alloc: Global,
     first: &[u8],
     below: &'a [u8],
-) -> Result<(Vec<Instr>, &'a [u8]), FormRefusal>
+) -> Result<(Vec<Transfer>, &'a [u8]), FormRefusal>
     ensures { Gives (λ p. (p.0.items, map words (lines p.1.now))) result (read.program_lines (words first.now ∷ map words (lines below.now))) }
 {
     let mut program = Vec::new(alloc);
@@ -135,16 +135,16 @@ fn label(alloc: Global, name: &[u8]) -> Result<Vec<u8>, FormRefusal>
 }
 
 /// The register's value after the instructions, as they load and copy it; None where none of them sets it.
-pub fn last_value(instrs: &[Instr], reg: Reg) -> Option<u8>
-    ensures { result ≡ program.last_value (reverse instrs.now) reg }
+pub fn last_value(transfers: &[Transfer], reg: Reg) -> Option<u8>
+    ensures { result ≡ program.last_value (reverse transfers.now) reg }
 {
     let mut wanted = reg;
-    let mut n = instrs.len();
+    let mut n = transfers.len();
     while n > 0 {
         n -= 1;
-        match instrs[n] {
-            Instr::Mvi(to, byte) if to == wanted => return Some(byte),
-            Instr::Mov(to, from) if to == wanted => wanted = from,
+        match transfers[n] {
+            Transfer::Mvi(to, byte) if to == wanted => return Some(byte),
+            Transfer::Mov(to, from) if to == wanted => wanted = from,
             _ => {}
         }
     }
@@ -152,12 +152,12 @@ pub fn last_value(instrs: &[Instr], reg: Reg) -> Option<u8>
 }
 
 /// Whether each MOV copies a register that is set above it.
-fn copies_set(instrs: &[Instr]) -> bool
-    ensures { result ≡ read.copies_set [] instrs.now }
+fn copies_set(transfers: &[Transfer]) -> bool
+    ensures { result ≡ read.copies_set [] transfers.now }
 {
-    for n in 0..instrs.len() {
-        if let Instr::Mov(_, from) = instrs[n] {
-            if last_value(&instrs[..n], from).is_none() {
+    for n in 0..transfers.len() {
+        if let Transfer::Mov(_, from) = transfers[n] {
+            if last_value(&transfers[..n], from).is_none() {
                 return false;
             }
         }
@@ -167,7 +167,7 @@ fn copies_set(instrs: &[Instr]) -> bool
 
 /// The program, whose first line begins with the routine's label, down to the line that ends the routine.
 #[tactic(auto, unfolding(crate::specs::Reading::program_of))]
-fn read_program(alloc: Global, name: &[u8], source: &[u8]) -> Result<Vec<Instr>, FormRefusal>
+fn read_program(alloc: Global, name: &[u8], source: &[u8]) -> Result<Vec<Transfer>, FormRefusal>
     ensures { Gives (λ instrs. instrs.items) result (read.program_of name.now (map words (lines source.now))) }
 {
     let label = label(alloc, name)?;

@@ -8,26 +8,25 @@ ghost use Rattle.sp_first.specs.Reading.{meets, sets_listed};
 ghost use Rattle.sp_first.specs.Source.{reading_of_source};
 
 use crate::source::{Source, last_value};
+use crate::transfer::Transfer;
 use sp_base::{Image, Memory, Reg};
-use sp_isa::Instr;
 use std::alloc::{AllocError, Global};
 
 /// Whether an instruction sets only a register of the list.
-fn sets_listed_register(listed: &[Reg], instr: Instr) -> bool
-    ensures { result ≡ sets_listed listed.now instr }
+fn sets_listed_register(listed: &[Reg], transfer: Transfer) -> bool
+    ensures { result ≡ sets_listed listed.now transfer }
 {
-    match instr {
-        Instr::Mvi(to, _) | Instr::Mov(to, _) => listed.contains(&to),
-        Instr::Ret => true,
+    match transfer {
+        Transfer::Mvi(to, _) | Transfer::Mov(to, _) => listed.contains(&to),
     }
 }
 
-fn all_set_listed(listed: &[Reg], instrs: &[Instr]) -> bool
-    ensures { result ≡ list_all (sets_listed listed.now) instrs.now }
+fn all_set_listed(listed: &[Reg], transfers: &[Transfer]) -> bool
+    ensures { result ≡ list_all (sets_listed listed.now) transfers.now }
 {
-    instrs
+    transfers
         .iter()
-        .all(|instr| sets_listed_register(listed, *instr))
+        .all(|transfer| sets_listed_register(listed, *transfer))
 }
 
 /// Whether the routine meets its annotations: the register of the postcondition has its value at last, and each

@@ -1,1 +1,4 @@
+pub mod Cases
 pub mod CodeLaws
+pub mod CoreLaws
+pub mod LocationLaws

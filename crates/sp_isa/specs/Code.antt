@@ -1,12 +1,21 @@
 -- Codes of instructions (8080 manual, the tables of each instruction's format).
-use Rattle.std.specs.Prelude.{◌≡◌, ℕ, ◌+◌, ◌*◌, ◌/◌, ◌%◌, ◌<◌, ◌&&◌, Bool, List, [], ◌∷◌, ◌++◌, length, Option, Some, None, ◌↔◌, if◌then◌else◌, ◌==◌, nat_lt}
-use Rattle.std.specs.Option.{option_map, option_and_then}
+use Rattle.std.specs.Prelude.{◌≡◌, ℕ, ◌+◌, ◌*◌, ◌/◌, ◌%◌, Bool, true, false, List, [], ◌∷◌, ◌++◌, length, nat_lt}
 use Rattle.sp_base.specs.declared.location.Reg.{Reg}
 use Rattle.sp_base.specs.declared.location.Reg.TheVariants as reg
+use Rattle.sp_base.specs.declared.pair.Pair.{Pair}
+use Rattle.sp_base.specs.declared.pair.Pair.TheVariants as pair
+use Rattle.sp_isa.specs.declared.instr.Arg.{Arg}
+use Rattle.sp_isa.specs.declared.instr.Arg.TheVariants as arg
+use Rattle.sp_isa.specs.declared.instr.StackPair.{StackPair}
+use Rattle.sp_isa.specs.declared.instr.StackPair.TheVariants as stack
+use Rattle.sp_isa.specs.declared.instr.Cond.{Cond}
+use Rattle.sp_isa.specs.declared.instr.Cond.TheVariants as when
+use Rattle.sp_isa.specs.declared.instr.Op.{Op}
+use Rattle.sp_isa.specs.declared.instr.Op.TheVariants as op
 use Rattle.sp_isa.specs.declared.instr.Instr.{Instr}
-use Rattle.sp_isa.specs.declared.instr.Instr.TheVariants.{Mov, Mvi, Ret}
+use Rattle.sp_isa.specs.declared.instr.Instr.TheVariants.{Mov, Mvi, Inr, Dcr, Alu, AluImmediate, Lxi, Dad, Inx, Dcx, Stax, Ldax, Shld, Lhld, Sta, Lda, Rlc, Rrc, Ral, Rar, Daa, Cma, Stc, Cmc, Push, Pop, Jmp, Jcc, Call, Ccc, Ret, Rcc, Rst, Pchl, Sphl, Xthl, Xchg, In, Out, Nop, Ei, Di, Hlt}
 
--- the code of a register in an instruction; 6 is the cell at HL
+-- the code of a register
 abbrev pub reg_code : Reg → ℕ
 reg_code reg.B = 0
 reg_code reg.C = 1
@@ -16,35 +25,146 @@ reg_code reg.H = 4
 reg_code reg.L = 5
 reg_code reg.A = 7
 
--- the bytes of an instruction: its first byte by fields, ddd and sss being registers' codes, and then its operand
-abbrev pub code : Instr → List ℕ
+-- the code of an operand: 6 is M, the cell at HL
+abbrev pub arg_code : Arg → ℕ
+arg_code (arg.Reg r) = reg_code r
+arg_code arg.M = 6
+
+-- the code of a register pair
+abbrev pub pair_code : Pair → ℕ
+pair_code pair.B = 0
+pair_code pair.D = 1
+pair_code pair.H = 2
+pair_code pair.Sp = 3
+
+-- the code of a pair that is pushed or popped
+abbrev pub stack_code : StackPair → ℕ
+stack_code stack.B = 0
+stack_code stack.D = 1
+stack_code stack.H = 2
+stack_code stack.Psw = 3
+
+-- the code of a condition
+abbrev pub cond_code : Cond → ℕ
+cond_code when.Nz = 0
+cond_code when.Z = 1
+cond_code when.Nc = 2
+cond_code when.C = 3
+cond_code when.Po = 4
+cond_code when.Pe = 5
+cond_code when.P = 6
+cond_code when.M = 7
+
+-- the code of an operation on the accumulator
+abbrev pub op_code : Op → ℕ
+op_code op.Add = 0
+op_code op.Adc = 1
+op_code op.Sub = 2
+op_code op.Sbb = 3
+op_code op.Ana = 4
+op_code op.Xra = 5
+op_code op.Ora = 6
+op_code op.Cmp = 7
+
+-- the code that would be MOV M,M is HLT; STAX and LDAX have the pairs B and D alone; RST has the numbers 0 to 7
+abbrev pub valid : Instr → Bool
+valid (Mov arg.M arg.M) = false
+valid (Stax pair.H) = false
+valid (Stax pair.Sp) = false
+valid (Ldax pair.H) = false
+valid (Ldax pair.Sp) = false
+valid (Rst n) = nat_lt n 8
+valid _ = true
+
+-- the first byte of an instruction, by the fields of its eight bits
+abbrev pub opcode : Instr → ℕ
 -- 01dddsss
-code (Mov to from) = (64 + 8 * reg_code to + reg_code from) ∷ []
--- 00ddd110, and the byte
-code (Mvi to byte) = (8 * reg_code to + 6) ∷ byte ∷ []
--- 11001001
-code Ret = 201 ∷ []
+opcode (Mov to from) = 64 + 8 * arg_code to + arg_code from
+-- 00ddd110
+opcode (Mvi to _) = 6 + 8 * arg_code to
+-- 00ddd100
+opcode (Inr y) = 4 + 8 * arg_code y
+-- 00ddd101
+opcode (Dcr y) = 5 + 8 * arg_code y
+-- 10ooosss
+opcode (Alu o y) = 128 + 8 * op_code o + arg_code y
+-- 11ooo110
+opcode (AluImmediate o _) = 198 + 8 * op_code o
+-- 00pp0001
+opcode (Lxi p _) = 1 + 16 * pair_code p
+-- 00pp1001
+opcode (Dad p) = 9 + 16 * pair_code p
+-- 00pp0011
+opcode (Inx p) = 3 + 16 * pair_code p
+-- 00pp1011
+opcode (Dcx p) = 11 + 16 * pair_code p
+-- 00pp0010
+opcode (Stax p) = 2 + 16 * pair_code p
+-- 00pp1010
+opcode (Ldax p) = 10 + 16 * pair_code p
+opcode (Shld _) = 0x22
+opcode (Lhld _) = 0x2A
+opcode (Sta _) = 0x32
+opcode (Lda _) = 0x3A
+opcode Rlc = 0x07
+opcode Rrc = 0x0F
+opcode Ral = 0x17
+opcode Rar = 0x1F
+opcode Daa = 0x27
+opcode Cma = 0x2F
+opcode Stc = 0x37
+opcode Cmc = 0x3F
+-- 11pp0101
+opcode (Push p) = 197 + 16 * stack_code p
+-- 11pp0001
+opcode (Pop p) = 193 + 16 * stack_code p
+opcode (Jmp _) = 0xC3
+-- 11ccc010
+opcode (Jcc when _) = 194 + 8 * cond_code when
+opcode (Call _) = 0xCD
+-- 11ccc100
+opcode (Ccc when _) = 196 + 8 * cond_code when
+opcode Ret = 0xC9
+-- 11ccc000
+opcode (Rcc when) = 192 + 8 * cond_code when
+-- 11nnn111
+opcode (Rst n) = 199 + 8 * n
+opcode Pchl = 0xE9
+opcode Sphl = 0xF9
+opcode Xthl = 0xE3
+opcode Xchg = 0xEB
+opcode (In _) = 0xDB
+opcode (Out _) = 0xD3
+opcode Nop = 0x00
+opcode Ei = 0xFB
+opcode Di = 0xF3
+opcode Hlt = 0x76
+
+-- the bytes of a word, its low byte first
+abbrev pub bytes_of : ℕ → List ℕ
+bytes_of w = w % 256 ∷ w / 256 ∷ []
+
+-- the bytes of an instruction's operand, which stand behind its first byte
+abbrev pub operand : Instr → List ℕ
+operand (Mvi _ n) = n ∷ []
+operand (AluImmediate _ n) = n ∷ []
+operand (In n) = n ∷ []
+operand (Out n) = n ∷ []
+operand (Lxi _ w) = bytes_of w
+operand (Shld w) = bytes_of w
+operand (Lhld w) = bytes_of w
+operand (Sta w) = bytes_of w
+operand (Lda w) = bytes_of w
+operand (Jmp w) = bytes_of w
+operand (Jcc _ w) = bytes_of w
+operand (Call w) = bytes_of w
+operand (Ccc _ w) = bytes_of w
+operand _ = []
+
+-- the bytes of an instruction
+abbrev pub code : Instr → List ℕ
+code i = opcode i ∷ operand i
 
 -- three bytes begin with this instruction, and it takes so many of them
 abbrev pub Begins : ℕ → ℕ → ℕ → Instr → ℕ → Type 0
 Begins b0 b1 b2 i n = (n ≡ length (code i)) × ((rest : List ℕ) × (b0 ∷ b1 ∷ b2 ∷ [] ≡ code i ++ rest))
-
--- the register of a code
-abbrev pub coded_reg : ℕ → Option Reg
-coded_reg code =
-    if code == 0 then Some reg.B else (if code == 1 then Some reg.C else (if code == 2 then Some reg.D else (if code == 3 then Some reg.E else
-    (if code == 4 then Some reg.H else (if code == 5 then Some reg.L else (if code == 7 then Some reg.A else None))))))
-
--- the MOV of two registers' codes
-abbrev pub coded_mov : ℕ → ℕ → Option (Instr × ℕ)
-coded_mov to from = option_and_then (λ to. option_map (λ from. (Mov to from, 1)) (coded_reg from)) (coded_reg to)
-
--- the instruction that three bytes begin with, and its length, by the fields of the first byte
-unfoldable pub decode : ℕ → ℕ → ℕ → Option (Instr × ℕ)
-decode b0 b1 b2 =
-    if b0 == 201 then Some (Ret, 1) else (if b0 / 64 == 1 then coded_mov (b0 / 8 % 8) (b0 % 8) else
-    (if b0 / 64 == 0 && b0 % 8 == 6 then option_map (λ to. (Mvi to b1, 2)) (coded_reg (b0 / 8)) else None))
-
--- the table: three bytes begin with an instruction exactly where it is decoded from them, with its length
-abbrev pub DecodesTheTable : Type 0
-DecodesTheTable = (b0 b1 b2 : ℕ) → b0 < 256 → (i : Instr) (n : ℕ) → Begins b0 b1 b2 i n ↔ (decode b0 b1 b2 ≡ Some (i, n))

@@ -1,5 +1,5 @@
 -- The core of the 8080: registers, flags, stack pointer, program counter, memory, and whether it is halted.
-use Rattle.std.specs.Prelude.{◌≡◌, ℕ, ◌+◌, ◌*◌, ◌%◌, ◌<◌, ◌≤◌, Bool, List, All, length, slice_index, slice_set}
+use Rattle.std.specs.Prelude.{◌≡◌, ℕ, ◌+◌, ◌*◌, ◌%◌, ◌<◌, Bool, false, List, All, length, slice_index, slice_set, ⊤}
 use Rattle.sp_base.specs.declared.location.Reg.{Reg}
 use Rattle.sp_base.specs.declared.location.Reg.TheVariants as reg
 use Rattle.sp_base.specs.declared.location.Loc.{Loc}
@@ -81,6 +81,15 @@ pub record IsCore (core : Core) : Type 0 where
   pub memory : length core.cells ≡ 65536
   pub bytes : All (λ byte. byte < 256) core.cells
 
+-- all is 0, and it isn't halted
+pub record IsBlank (core : Core) : Type 0 where
+  pub locations : (x : Loc) → at x core ≡ 0
+  pub sp : core.sp ≡ 0
+  pub pc : core.pc ≡ 0
+  pub running : core.halted ≡ false
+  pub memory : length core.cells ≡ 65536
+  pub bytes : All (λ byte. byte ≡ 0) core.cells
+
 -- the core with another value in a register
 unfoldable pub with_reg : Reg → ℕ → Core → Core
 with_reg reg.B v core = record core { b = v }
@@ -98,3 +107,34 @@ with_sp v core = record core { sp = v % 65536 }
 -- the core with another program counter, taken modulo 65,536
 unfoldable pub with_pc : ℕ → Core → Core
 with_pc v core = record core { pc = v % 65536 }
+
+-- the core with another byte at an address, taken modulo 65,536
+unfoldable pub with_cell : ℕ → ℕ → Core → Core
+with_cell address v core = record core { cells = slice_set core.cells (address % 65536) v }
+
+-- these locations are flags
+abbrev pub IsFlag : Loc → Type 0
+IsFlag loc.S = ⊤
+IsFlag loc.Z = ⊤
+IsFlag loc.Ac = ⊤
+IsFlag loc.P = ⊤
+IsFlag loc.Cy = ⊤
+IsFlag _ = ⊥
+
+-- the core with another value in a flag
+unfoldable pub with_flag : Loc → ℕ → Core → Core
+with_flag loc.S v core = record core { s = v }
+with_flag loc.Z v core = record core { z = v }
+with_flag loc.Ac v core = record core { ac = v }
+with_flag loc.P v core = record core { p = v }
+with_flag loc.Cy v core = record core { cy = v }
+with_flag _ v core = core
+
+-- the core with its state of rest changed
+unfoldable pub with_halted : Bool → Core → Core
+with_halted v core = record core { halted = v }
+
+-- the program counter goes on by the instruction's length
+unfoldable pub advance : ℕ → Core → Core
+unfolding with_pc
+advance n core = with_pc (core.pc + n) core

@@ -1,3 +1,10 @@
+pub mod Arithmetic
 pub mod Code
 pub mod Core
+pub mod Decode
 pub mod Effect
+pub mod Encoding
+pub mod Locations
+pub mod Operands
+pub mod Stack
+pub mod Step

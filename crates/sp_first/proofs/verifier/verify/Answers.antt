@@ -1,11 +1,11 @@
-use Rattle.std.proofs.Common.{◌≡◌, ℕ, ◌≤◌, List, [], ◌∷◌, ◌++◌, length, true, false, sym, ap, ◌∙◌, rules, tests, arith}
+use Rattle.std.proofs.Common.{◌≡◌, ℕ, List, [], ◌∷◌, length, true, sym, ap, ◌∙◌, arith}
 use Rattle.std.specs.Prelude.{flat_map, ◌==◌}
 use Rattle.std.proofs.Common.{refl}
 use Rattle.std.specs.List.{enumerate_from}
 use Rattle.std.specs.FinMap as maps
 use Rattle.std.proofs.lemmas.Bool.Decides.{nat_tests}
 use Rattle.sp_isa.specs.Code.{code}
-use Rattle.sp_isa.specs.declared.instr.Instr.TheVariants.{Ret}
+use Rattle.sp_first.specs.Program.{instrs_of}
 use Rattle.sp_first.specs.Source.{reading_of_source}
 use Rattle.sp_first.proofs.RightLaws.{program_few, right, accepted, not_built, open_condition}
 use Rattle.sp_first.proofs.verifier.verify.Goals as goal
@@ -26,7 +26,7 @@ image_of-requires c = omega (arith, program_few c.args.source.now (reading_of_so
 
 pub returns-clause-right : goal.returns-clause-right
 returns-clause-right c = right c.args.source.now (reading_of_source c.in-Ok.source) c.in_ok-image_of.field-0 c.in-Ok.ensures (sym c.is_met.ensures ∙ c.if-not-is_met.false)
-    (c.in_ok-image_of.ensures ∙ ap (λ is. maps.from_entries (enumerate_from 0 (flat_map code (is ++ Ret ∷ [])))) c.deref.ensures.value)
+    (c.in_ok-image_of.ensures ∙ ap (λ is. maps.from_entries (enumerate_from 0 (flat_map code (instrs_of is)))) c.deref.ensures.value)
 
 pub returns-clause-accepted : goal.returns-clause-accepted
 returns-clause-accepted c =

@@ -1,4 +1,4 @@
-use Rattle.std.proofs.Common.{arith, rules, tests}
+use Rattle.std.proofs.Common.{rules, tests}
 use Rattle.sp_first.proofs.WordLaws.{line_begins}
 use Rattle.sp_first.proofs.words.split_line.Goals as goal
 

@@ -1,5 +1,5 @@
-use Rattle.std.proofs.Common.{◌≡◌, ◌+◌, ◌<◌, sym, ◌∙◌, refl, arith}
-use Rattle.sp_first.proofs.WordLaws.{WordReaches, word_more_at}
+use Rattle.std.proofs.Common.{sym, ◌∙◌, refl, arith}
+use Rattle.sp_first.proofs.WordLaws.{word_more_at}
 use Rattle.sp_first.proofs.words.word_len.Goals as goal
 
 pub loop-n-preserved : goal.loop-n-preserved

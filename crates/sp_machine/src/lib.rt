@@ -1,0 +1,18 @@
+//! The 8080 as a machine that runs: registers, flags, the stack pointer, the program counter and 65,536 cells of memory.
+#![tactic(auto)]
+
+mod arithmetic;
+mod event;
+mod execute;
+mod machine;
+mod operands;
+mod stack;
+mod step;
+mod transfer;
+mod turns;
+
+pub use event::Event;
+pub use machine::Machine;
+
+#[cfg(test)]
+mod tests;

@@ -1,0 +1,42 @@
+ghost use Rattle.std.specs.Prelude.{◌≡◌};
+ghost use Rattle.sp_isa.specs.Step.{step};
+ghost use Rattle.sp_machine.specs.Event.{event, event_of};
+
+use crate::{Event, Machine};
+use sp_base::Reg;
+use sp_isa::{Instr, decode};
+
+/// Steps of the machine.
+impl Machine {
+    fn event_of(&self, i: Instr) -> Event
+        ensures { result ≡ event_of i self.now }
+    {
+        match i {
+            Instr::In(port) => Event::In(port),
+            Instr::Out(port) => Event::Out(port, self.reg(Reg::A)),
+            Instr::Hlt => Event::Halted,
+            _ => Event::Plain,
+        }
+    }
+
+    /// One step, `input` being the byte that an IN takes. A step allocates nothing, and copies no memory.
+    #[tactic(auto, unfolding(sp_isa::specs::Step::step, crate::specs::Event::event))]
+    pub fn step(&mut self, input: u8) -> Event
+        ensures state { self.new ≡ step input self.old }
+        ensures event { result ≡ event self.old }
+    {
+        if self.halted() {
+            return Event::Halted;
+        }
+        let pc = self.pc();
+        let first = self.cell(pc);
+        let second = self.cell(pc.wrapping_add(1));
+        let third = self.cell(pc.wrapping_add(2));
+        let Some((i, _)) = decode([first, second, third]) else {
+            return Event::Stuck(first);
+        };
+        let event = self.event_of(i);
+        self.execute(input, i);
+        event
+    }
+}
