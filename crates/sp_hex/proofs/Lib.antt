@@ -6,3 +6,4 @@ pub mod PlaceLaws
 pub mod RecordLaws
 pub mod RowLaws
 pub mod TextLaws
+pub mod WrittenLaws

@@ -1,15 +1,15 @@
 -- The cells of an image by rising address, and the records that they are written in.
 use Rattle.std.proofs.Common.{◌≡◌, ◌≢◌, ◌⊎◌, ℕ, suc, ◌+◌, ◌<◌, ◌≤◌, Bool, true, false, ◌&&◌, T, eqb, ltb, List, [], ◌∷◌, ◌++◌, length, refl, sym, ap, subst, ◌∙◌, inl, inr, Some, None, arith, rules, append_assoc}
 use Rattle.std.specs.Prelude.{filter, nat_le, Option}
-use Rattle.std.proofs.lemmas.Bool.{cases_lt, cases_eq, cases_order, le-leb, lt-leb, le-ltb, lt-ltb, eq-eqb, ne_eqb, and_left, and_right, and_from, cond-true, cond-false}
+use Rattle.std.proofs.lemmas.Bool.{cases_lt, cases_eq, cases_order, le-leb, lt-leb, le-ltb, lt-ltb, eq-eqb, ne_eqb, and_left, and_right, and_from, cond-true, cond-false, cases_Bool, eqb-true, ltb-true, ltb-false, false≢true}
 use Rattle.std.proofs.lemmas.List.{append-nil, length_push}
 use Rattle.std.specs.Ordering.{nat_cmp, is_lt}
-use Rattle.std.specs.List.{flat_map}
+use Rattle.std.specs.List.{flat_map, AllByRecursion}
 use Rattle.std.specs.FinMap as maps
 use Rattle.std.specs.FinMap.{find, is_sorted}
 use Rattle.std.specs.FinMap.Entries.{below_all}
 use Rattle.sp_base.specs.Image.{ImageMap, NextByte, NoByteFrom}
-use Rattle.sp_hex.specs.Hex.{Data, cells_at, records_from, records_of, written_record, data_type, end_type, text}
+use Rattle.sp_hex.specs.Hex.{Data, cells_at, cells_of, AreFull, AreWritten, records_from, records_of, written_record, data_type, end_type, text}
 use Rattle.sp_hex.specs.Rows.{rising, AreNext, IsRow}
 
 -- ---- Small things
@@ -221,3 +221,93 @@ unfolding text
 write_end image a old new none put so_far =
     let all : old ≡ data_text (records_of (maps.entries image)) = sym (append-nil old) ∙ ap (λ (x : Cells). old ++ data_text (records_of x)) (sym (rising_none image a none)) ∙ so_far in
     put ∙ ap (λ (x : List ℕ). x ++ written_record end_type 0 []) all
+
+-- ---- The written form
+
+abbrev Short : Data → Type 0
+Short d = (0 < length d.bytes) × (length d.bytes ≤ 16)
+
+-- the first record is at this address
+abbrev FirstAt : List Data → ℕ → Type 0
+FirstAt [] a = ⊥
+FirstAt (d ∷ records) a = d.address ≡ a
+
+full_cons : (d : Data) (records : List Data) (a : ℕ) → FirstAt records a → (a ≡ d.address + length d.bytes → length d.bytes ≡ 16) → AreFull records → AreFull (d ∷ records)
+full_cons d [] a first full rest = tt
+full_cons d (e ∷ records) a first full rest = (λ at. full (sym first ∙ at), rest)
+
+and_both : (x y : Bool) → (x && y) ≡ true → (x ≡ true) × (y ≡ true)
+and_both true y h = (refl, h)
+and_both false y h = absurd (false≢true h)
+
+off : (x y : Bool) → x ≡ true → (x && y) ≡ false → y ≡ false
+off true y is h = h
+off false y is h = absurd (false≢true is)
+
+at_most : (n : ℕ) → n ≤ 16 → 16 ≤ n → n ≡ 16
+at_most n le ge = omega arith
+
+begins_first : (a : ℕ) (bytes : List ℕ) (rest : Cells) (at : ℕ) → 0 < length bytes → BeginsAt (cells_at a bytes ++ rest) at → a ≡ at
+begins_first a [] rest at some begins = absurd (omega arith)
+begins_first a (b ∷ bytes) rest at some begins = begins
+
+record Made (d : Data) (cells : Cells) (records : List Data) : Type 0 where
+  whole : cells_of records ≡ cells_at d.address d.bytes ++ cells
+  short : AllByRecursion Short records
+  full : AreFull records
+  first : FirstAt records d.address
+
+made : (d : Data) (cells : Cells) → Short d → Made d cells (records_from d cells)
+unfolding records_from
+made d [] short = record { whole = refl; short = (short, tt); full = tt; first = refl }
+made d (c ∷ cells) short =
+    let joins : Bool = eqb c.0 (d.address + length d.bytes) && ltb (length d.bytes) 16 in
+    let longer : Data = record { address = d.address; bytes = d.bytes ++ c.1 ∷ [] } in
+    let next : Data = record { address = c.0; bytes = c.1 ∷ [] } in
+    elim (cases_Bool joins) [
+      | inl joined ↦
+          let tests = and_both (eqb c.0 (d.address + length d.bytes)) (ltb (length d.bytes) 16) joined in
+          let len : length (d.bytes ++ c.1 ∷ []) ≡ length d.bytes + 1 = length_push d.bytes c.1 in
+          let more = made longer cells (omega (arith, len), omega (arith, len, ltb-true (length d.bytes) 16 tests.1)) in
+          let at : c.0 ≡ d.address + length d.bytes = eqb-true _ _ tests.0 in
+          subst (Made d (c ∷ cells)) (sym (cond-true joins (records_from longer cells) (d ∷ records_from next cells) joined)) (record {
+            whole = more.whole ∙ cells_push d.address d.bytes c.1 cells ∙ ap (λ (k : ℕ). cells_at d.address d.bytes ++ (k, c.1) ∷ cells) (sym at);
+            short = more.short; full = more.full; first = more.first;
+          })
+      | inr not_joined ↦
+          let more = made next cells (omega arith, omega arith) in
+          subst (Made d (c ∷ cells)) (sym (cond-false joins (records_from longer cells) (d ∷ records_from next cells) not_joined)) (record {
+            whole = ap (λ (x : Cells). cells_at d.address d.bytes ++ x) more.whole;
+            short = (short, more.short);
+            full = full_cons d (records_from next cells) c.0 more.first (λ at. at_most (length d.bytes) short.1
+                (ltb-false _ _ (off (eqb c.0 (d.address + length d.bytes)) (ltb (length d.bytes) 16) (eq-eqb _ _ at) not_joined))) more.full;
+            first = refl;
+          })
+    ]
+
+pub written_made : (cells : Cells) → AreWritten cells (records_of cells)
+written_made [] = record { whole = refl; short = tt; full = tt }
+written_made (c ∷ cells) =
+    let h = made (record { address = c.0; bytes = c.1 ∷ [] }) cells (omega arith, omega arith) in
+    record { whole = h.whole; short = h.short; full = h.full }
+
+begins_full : (d : Data) (records : List Data) → AllByRecursion Short records → AreFull (d ∷ records) → BeginsAt (cells_of records) (d.address + length d.bytes) → length d.bytes ≡ 16
+begins_full d [] short full begins = absurd begins
+begins_full d (e ∷ records) short full begins = full.0 (begins_first e.address e.bytes (cells_of records) _ short.0.0 begins)
+
+full_tail : (d : Data) (records : List Data) → AreFull (d ∷ records) → AreFull records
+full_tail d [] full = tt
+full_tail d (e ∷ records) full = full.1
+
+records_only : (records : List Data) → AllByRecursion Short records → AreFull records → records ≡ records_of (cells_of records)
+records_only [] short full = refl
+records_only (d ∷ records) short full =
+    let ends : (length d.bytes ≡ 16) ⊎ ¬ (BeginsAt (cells_of records) (d.address + length d.bytes)) = elim (cases_eq (length d.bytes) 16) [
+      | inl whole ↦ inl whole
+      | inr part ↦ inr (λ begins. part (begins_full d records short.1 full begins))
+    ] in
+    ap (λ (x : List Data). d ∷ x) (records_only records short.1 (full_tail d records full))
+    ∙ sym (records-row d.address d.bytes (cells_of records) short.0.0 short.0.1 ends)
+
+pub written_only : (cells : Cells) (records : List Data) → AreWritten cells records → records ≡ records_of cells
+written_only cells records h = records_only records h.short h.full ∙ ap records_of h.whole

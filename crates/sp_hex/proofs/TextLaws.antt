@@ -319,3 +319,30 @@ gives_all (Err refusal) total other h is = elim (some_or_memory total refusal h)
   | inl memory ↦ inr (ap (λ (e : HexRefusal). Err e) memory)
   | inr found ↦ inl (sym found ∙ is)
 ]
+
+-- ---- One answer
+
+answer_ok : (a b : ImageMap) → ◌≡◌ {A = Result ImageMap HexRefusal} (Ok a) (Ok b) → a ≡ b
+answer_ok a b e = cc
+
+answer_err : (a b : HexRefusal) → ◌≡◌ {A = Result ImageMap HexRefusal} (Err a) (Err b) → a ≡ b
+answer_err a b e = cc
+
+not_both : (a : ImageMap) (b : HexRefusal) → ◌≡◌ {A = Result ImageMap HexRefusal} (Ok a) (Err b) → ⊥
+not_both a b e = cc
+
+pub one_image : (t : List ℕ) (a b : ImageMap) → StandsFor t a → StandsFor t b → a ≡ b
+one_image t a b h k = answer_ok a b (sym (image_again t a h) ∙ image_again t b k)
+
+pub one_refusal : (t : List ℕ) (a b : HexRefusal) → IsCause t a → IsCause t b → a ≡ b
+one_refusal t a b h k = answer_err a b (sym (cause_again t a h) ∙ cause_again t b k)
+
+pub never_both : (t : List ℕ) (image : ImageMap) (refusal : HexRefusal) → StandsFor t image → ¬ (IsCause t refusal)
+never_both t image refusal h k = not_both image refusal (sym (image_again t image h) ∙ cause_again t refusal k)
+
+one_of : (t : List ℕ) (r : Result ImageMap HexRefusal) → IsAnswer t r → ((image : ImageMap) × StandsFor t image) ⊎ ((refusal : HexRefusal) × IsCause t refusal)
+one_of t (Ok image) h = inl (image, h)
+one_of t (Err refusal) h = inr (refusal, h)
+
+pub always_one : (t : List ℕ) → ((image : ImageMap) × StandsFor t image) ⊎ ((refusal : HexRefusal) × IsCause t refusal)
+always_one t = one_of t (reading 1 maps.empty (lines t)) (reading_answers t)

@@ -1,6 +1,6 @@
 -- Intel HEX: the texts that stand for an image, and the text of an image as it is written.
-use Rattle.std.specs.Prelude.{◌≡◌, ◌⊎◌, ℕ, ◌+◌, ◌-◌, ◌*◌, ◌/◌, ◌%◌, ◌≤◌, nat_le, nat_lt, nat_eq, ◌==◌, ◌&&◌, if◌then◌else◌, List, [], ◌∷◌, ◌++◌, length, map, sum, All, Option, Some, None, option_and_then, option_map}
-use Rattle.std.specs.List.{flat_map, AllZip, IsDistinct}
+use Rattle.std.specs.Prelude.{◌≡◌, ◌⊎◌, ℕ, ◌+◌, ◌-◌, ◌*◌, ◌/◌, ◌%◌, ◌<◌, ◌≤◌, nat_le, nat_lt, nat_eq, ◌==◌, ◌&&◌, if◌then◌else◌, List, [], ◌∷◌, ◌++◌, length, map, sum, All, Option, Some, None, option_and_then, option_map}
+use Rattle.std.specs.List.{flat_map, AllZip, IsDistinct, AllByRecursion}
 use Rattle.std.specs.Str.Lines.{lines}
 use Rattle.std.specs.FinMap as maps
 use Rattle.sp_base.specs.Image.{ImageMap}
@@ -134,6 +134,19 @@ records_from d (c ∷ cells) =
 abbrev pub records_of : List (ℕ × ℕ) → List Data
 records_of [] = []
 records_of (c ∷ cells) = records_from (record { address = c.0; bytes = c.1 ∷ [] }) cells
+
+-- a record that another goes on from, at the next address, has 16 bytes
+abbrev pub AreFull : List Data → Type 0
+AreFull [] = Unit {0}
+AreFull (d ∷ []) = Unit {0}
+AreFull (d ∷ e ∷ records) = (e.address ≡ d.address + length d.bytes → length d.bytes ≡ 16) × AreFull (e ∷ records)
+
+-- the records that cells in rising order are written in: they give these cells, in this order, each has 1 to 16 bytes,
+-- and each but the last of a run has 16
+pub record AreWritten (cells : List (ℕ × ℕ)) (records : List Data) : Type 0 where
+  pub whole : cells_of records ≡ cells
+  pub short : AllByRecursion (λ d. (0 < length d.bytes) × (length d.bytes ≤ 16)) records
+  pub full : AreFull records
 
 -- the text of an image: its data records by rising address, and the end record
 unfoldable pub text : ImageMap → List ℕ
