@@ -272,7 +272,9 @@ made d (c ∷ cells) short =
           let at : c.0 ≡ d.address + length d.bytes = eqb-true _ _ tests.0 in
           subst (Made d (c ∷ cells)) (sym (cond-true joins (records_from longer cells) (d ∷ records_from next cells) joined)) (record {
             whole = more.whole ∙ cells_push d.address d.bytes c.1 cells ∙ ap (λ (k : ℕ). cells_at d.address d.bytes ++ (k, c.1) ∷ cells) (sym at);
-            short = more.short; full = more.full; first = more.first;
+            short = more.short;
+            full = more.full;
+            first = more.first;
           })
       | inr not_joined ↦
           let more = made next cells (omega arith, omega arith) in

@@ -1,6 +1,6 @@
 -- The text of an image stands for it, and what is cut from its end doesn't.
-use Rattle.std.proofs.Common.{◌≡◌, ◌≢◌, ◌⊎◌, ℕ, zero, suc, ◌+◌, ◌-◌, ◌*◌, ◌/◌, ◌%◌, ◌<◌, ◌≤◌, Bool, true, false, ◌&&◌, T, cond, eqb, leb, ltb, List, [], ◌∷◌, ◌++◌, length, map, take, drop, get_or, sum, refl, sym, ap, subst, ◌∙◌, inl, inr, Option, Some, None, All, arith, rules, append_assoc, length-append}
-use Rattle.std.specs.Prelude.{nat_eq, option_map, option_and_then, unwrap_or}
+use Rattle.std.proofs.Common.{◌≡◌, ℕ, zero, suc, ◌+◌, ◌-◌, ◌*◌, ◌/◌, ◌%◌, ◌<◌, ◌≤◌, Bool, true, false, ◌&&◌, T, eqb, List, [], ◌∷◌, ◌++◌, length, map, take, drop, get_or, sum, refl, sym, ap, subst, ◌∙◌, inl, inr, Some, None, All, arith, rules, append_assoc, length-append}
+use Rattle.std.specs.Prelude.{nat_eq, option_map}
 use Rattle.std.specs.List.{AllByRecursion, AllZip, IsDistinct, flat_map}
 use Rattle.std.specs.Str.Lines.{lines, strip_carriage_return}
 use Rattle.std.specs.Ordering.{nat_cmp, is_lt}
@@ -9,13 +9,13 @@ use Rattle.std.specs.FinMap as maps
 use Rattle.std.specs.FinMap.{is_sorted, nat_cmp-IsAntisymmetric}
 use Rattle.std.specs.FinMap.Entries.{below_all}
 use Rattle.std.proofs.Math.Seq.{take-append_seam, take-append-add, take-length}
-use Rattle.std.proofs.lemmas.Bool.{cases_lt, le-leb, lt-leb, lt-ltb, le-ltb, ne_eqb, and_from, and_left, cond-true, cond-false}
-use Rattle.std.proofs.lemmas.List.{append-nil, take-append-le, length-take-le, nil_from_length, length_push, take-append-drop}
+use Rattle.std.proofs.lemmas.Bool.{cases_lt, le-leb, lt-leb, lt-ltb, le-ltb, ne_eqb, cond-false}
+use Rattle.std.proofs.lemmas.List.{take-append-le, length-take-le, length_push, take-append-drop}
 use Rattle.std.proofs.lemmas.List.Sums.{sum_by-append}
 use Rattle.std.proofs.lemmas.List.Elements.{All-from_recursion, All-head, All-tail}
 use Rattle.sp_base.specs.Image.{ImageMap, IsInMemory, AreCells}
-use Rattle.sp_hex.specs.Hex.{Data, cells_at, cells_of, fields, data_type, end_type, digit_value, byte_of, bytes_of, line_bytes, HasDataForm, HasEndForm, HasSum, IsDataLine, IsEndLine, NoneTwice, StandsFor, digit, two_digits, checksum_of, written_record, AreWritten, records_of, text}
-use Rattle.sp_hex.proofs.LineLaws.{is_feed, lines_cons, lines_one, lines_nil}
+use Rattle.sp_hex.specs.Hex.{Data, cells_at, cells_of, fields, data_type, end_type, digit_value, byte_of, bytes_of, line_bytes, IsDataLine, IsEndLine, StandsFor, digit, two_digits, checksum_of, written_record, records_of, text}
+use Rattle.sp_hex.proofs.LineLaws.{is_feed, lines_cons, lines_one}
 use Rattle.sp_hex.proofs.RecordLaws.{AreBytes, then_some, map_some, chosen, some_is, not_none}
 use Rattle.sp_hex.proofs.RowLaws.{data_text, written_made}
 
@@ -144,9 +144,10 @@ Cell c = (c.0 < 65536) × (c.1 < 256)
 
 each_cell : (cells : List (ℕ × ℕ)) → AreCells cells → AllByRecursion Cell cells
 each_cell [] h = tt
-each_cell (c ∷ cells) h =
-    ((All-head (λ a. a < 65536) c.0 (map (λ x. x.0) cells) h.addresses, All-head (λ b. b < 256) c.1 (map (λ x. x.1) cells) h.bytes),
-    each_cell cells (record { addresses = All-tail (λ a. a < 65536) c.0 (map (λ x. x.0) cells) h.addresses; bytes = All-tail (λ b. b < 256) c.1 (map (λ x. x.1) cells) h.bytes }))
+each_cell (c ∷ cells) h = (
+  (All-head (λ a. a < 65536) c.0 (map (λ x. x.0) cells) h.addresses, All-head (λ b. b < 256) c.1 (map (λ x. x.1) cells) h.bytes),
+  each_cell cells (record { addresses = All-tail (λ a. a < 65536) c.0 (map (λ x. x.0) cells) h.addresses; bytes = All-tail (λ b. b < 256) c.1 (map (λ x. x.1) cells) h.bytes }),
+)
 
 cells_fit : (a : ℕ) (bytes : List ℕ) → AllByRecursion Cell (cells_at a bytes) → AreBytes bytes
 cells_fit a [] h = tt
@@ -211,7 +212,10 @@ stands image tail h one =
     let records = records_of (maps.entries image) in
     let w = written_made (maps.entries image) in
     record {
-      before = bodies records; last = body end_type 0 []; after = []; records = records;
+      before = bodies records;
+      last = body end_type 0 [];
+      after = [];
+      records = records;
       whole = lines_data records tail ∙ ap (λ (x : List (List ℕ)). bodies records ++ x) one;
       each = each_right records (image_goods image h);
       ended = end_right;
@@ -329,3 +333,61 @@ text_cut image other n h few s =
     let records = records_of (maps.entries image) in
     let none = cut_lines records n (image_goods image h) (omega (arith, length-append (data_text records) end_text)) in
     rec_middle (λ line. ¬ (IsEndLine line)) s.before s.last s.after (subst NoEnds s.whole none) s.ended
+
+-- ---- How long a text is
+
+above : (a : ℕ) (cells : List (ℕ × ℕ)) → T (below_all nat_cmp a cells) → AllByRecursion (λ c. a + 1 ≤ c.0) cells
+above a [] h = tt
+above a (c ∷ cells) h =
+    let p = and_parts (is_lt (nat_cmp a c.0)) (below_all nat_cmp a cells) h in
+    let lt = less a c.0 p.0 in
+    (omega arith, above a cells p.1)
+
+-- cells in order have an address each
+few_cells : (a : ℕ) (cells : List (ℕ × ℕ)) → a ≤ 65536 → T (is_sorted nat_cmp cells) → AllByRecursion (λ c. a ≤ c.0) cells → AllByRecursion Cell cells → a + length cells ≤ 65536
+few_cells a [] low sorted from h = omega (arith, low)
+few_cells a (c ∷ cells) low sorted from h =
+    let p = and_parts (below_all nat_cmp c.0 cells) (is_sorted nat_cmp cells) sorted in
+    let rest = few_cells (c.0 + 1) cells (omega (arith, h.0.0)) p.1 (above c.0 cells p.0) h.1 in
+    omega (arith, from.0, rest)
+
+from_zero : (cells : List (ℕ × ℕ)) → AllByRecursion (λ c. 0 ≤ c.0) cells
+from_zero [] = tt
+from_zero (c ∷ cells) = (omega arith, from_zero cells)
+
+length-cells_at : (a : ℕ) (bytes : List ℕ) → length (cells_at a bytes) ≡ length bytes
+length-cells_at a [] = refl
+length-cells_at a (b ∷ bytes) = omega (arith, length-cells_at (a + 1) bytes)
+
+length-record : (bytes : List ℕ) (kind a : ℕ) → length (written_record kind a bytes) ≡ 12 + 2 * length bytes
+length-record bytes kind a =
+    let all = fields kind a bytes ++ checksum_of (fields kind a bytes) ∷ [] in
+    omega (arith, length_push (body kind a bytes) 10, length-digits all, length_push (fields kind a bytes) (checksum_of (fields kind a bytes)))
+
+length-data : (records : List Data) → AllByRecursion Good records → length (data_text records) ≤ 14 * length (cells_of records)
+length-data [] h = omega arith
+length-data (d ∷ records) h =
+    let front = written_record data_type d.address d.bytes in
+    omega (
+      arith,
+      length-data records h.1,
+      h.0.some,
+      length-record d.bytes data_type d.address,
+      length-append front (data_text records),
+      length-append (cells_at d.address d.bytes) (cells_of records),
+      length-cells_at d.address d.bytes,
+    )
+
+pub text_short : (image : ImageMap) → IsInMemory image → length (text image) ≤ 917516
+unfolding text
+text_short image h =
+    let cells = maps.entries image in
+    let records = records_of cells in
+    omega (
+      arith,
+      length-append (data_text records) end_text,
+      length-record [] end_type 0,
+      length-data records (image_goods image h),
+      ap length (written_made cells).whole,
+      few_cells 0 cells (omega arith) (maps.entries_sorted image) (from_zero cells) (each_cell cells h),
+    )
