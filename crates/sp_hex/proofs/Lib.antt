@@ -1,5 +1,6 @@
 pub mod CellLaws
 pub mod DigitLaws
+pub mod FindLaws
 pub mod LineLaws
 pub mod LoopLaws
 pub mod PlaceLaws

@@ -1,6 +1,6 @@
 -- The cells of an image by rising address, and the records that they are written in.
-use Rattle.std.proofs.Common.{◌≡◌, ◌≢◌, ◌⊎◌, ℕ, suc, ◌+◌, ◌<◌, ◌≤◌, Bool, true, false, ◌&&◌, T, eqb, ltb, List, [], ◌∷◌, ◌++◌, length, refl, sym, ap, subst, ◌∙◌, inl, inr, Some, None, arith, rules, append_assoc}
-use Rattle.std.specs.Prelude.{filter, nat_le, Option}
+use Rattle.std.proofs.Common.{◌≡◌, ◌⊎◌, ℕ, suc, ◌+◌, ◌<◌, ◌≤◌, Bool, true, false, ◌&&◌, T, eqb, ltb, List, [], ◌∷◌, ◌++◌, length, refl, sym, ap, subst, ◌∙◌, inl, inr, Some, None, arith, append_assoc}
+use Rattle.std.specs.Prelude.{filter, nat_le}
 use Rattle.std.proofs.lemmas.Bool.{cases_lt, cases_eq, cases_order, le-leb, lt-leb, le-ltb, lt-ltb, eq-eqb, ne_eqb, and_left, and_right, and_from, cond-true, cond-false, cases_Bool, eqb-true, ltb-true, ltb-false, false≢true}
 use Rattle.std.proofs.lemmas.List.{append-nil, length_push}
 use Rattle.std.specs.Ordering.{nat_cmp, is_lt}
@@ -11,15 +11,9 @@ use Rattle.std.specs.FinMap.Entries.{below_all}
 use Rattle.sp_base.specs.Image.{ImageMap, NextByte, NoByteFrom}
 use Rattle.sp_hex.specs.Hex.{Data, cells_at, cells_of, AreFull, AreWritten, records_from, records_of, written_record, data_type, end_type, text}
 use Rattle.sp_hex.specs.Rows.{rising, AreNext, IsRow}
+use Rattle.sp_hex.proofs.FindLaws.{Cells, here, other, some_is_not_none, order_parts, less}
 
 -- ---- Small things
-
-and_parts : (x y : Bool) → T (x && y) → T x × T y
-and_parts true y h = (tt, h)
-and_parts false y h = absurd h
-
-less : (a b : ℕ) → T (is_lt (nat_cmp a b)) → a < b
-less a b h = search rules
 
 some_is : {x y : ℕ} → Some x ≡ Some y → x ≡ y
 some_is e = cc
@@ -35,24 +29,12 @@ shift a n m e = omega arith
 
 -- ---- The cells from an address on
 
-abbrev Cells : Type 0
-Cells = List (ℕ × ℕ)
-
 abbrev from : ℕ → Cells → Cells
 from a = filter (λ c. nat_le a c.0)
 
 from_zero : (cells : Cells) → from 0 cells ≡ cells
 from_zero [] = refl
 from_zero (c ∷ cells) = rw (le-leb 0 c.0 (omega arith)) (ap (λ (x : Cells). c ∷ x) (from_zero cells))
-
-here : (c : ℕ × ℕ) (cells : Cells) → find nat_cmp c.0 (c ∷ cells) ≡ Some c.1
-here c cells = search rules
-
-other : (q : ℕ) (c : ℕ × ℕ) (cells : Cells) → q ≢ c.0 → find nat_cmp q (c ∷ cells) ≡ find nat_cmp q cells
-other q c cells ne = search rules
-
-some_is_not_none : (x : ℕ) (o : Option ℕ) → o ≡ Some x → o ≡ None → ⊥
-some_is_not_none x o some none = cc
 
 -- what is not found behind the first cell either
 not_behind : (q : ℕ) (c : ℕ × ℕ) (cells : Cells) → find nat_cmp q (c ∷ cells) ≡ None → find nat_cmp q cells ≡ None
@@ -84,7 +66,7 @@ none_between a b (c ∷ cells) le none =
 not_above : (q a : ℕ) (cells : Cells) → q ≤ a → T (below_all nat_cmp a cells) → find nat_cmp q cells ≡ None
 not_above q a [] le above = refl
 not_above q a (c ∷ cells) le above =
-    let p = and_parts (is_lt (nat_cmp a c.0)) (below_all nat_cmp a cells) above in
+    let p = order_parts (is_lt (nat_cmp a c.0)) (below_all nat_cmp a cells) above in
     let lt : a < c.0 = less a c.0 p.0 in
     other q c cells (λ e. absurd (omega arith)) ∙ not_above q a cells le p.1
 
@@ -92,7 +74,7 @@ not_above q a (c ∷ cells) le above =
 pub cell_from : (a byte : ℕ) (cells : Cells) → T (is_sorted nat_cmp cells) → find nat_cmp a cells ≡ Some byte → from a cells ≡ (a, byte) ∷ from (a + 1) cells
 cell_from a byte [] sorted found = absurd (some_is_not_none byte None found refl)
 cell_from a byte (c ∷ cells) sorted found =
-    let p = and_parts (below_all nat_cmp c.0 cells) (is_sorted nat_cmp cells) sorted in
+    let p = order_parts (below_all nat_cmp c.0 cells) (is_sorted nat_cmp cells) sorted in
     elim (cases_order a c.0) [
       | inl same ↦
           let value : c.1 ≡ byte = some_is (sym (here c cells) ∙ subst (λ k. find nat_cmp k (c ∷ cells) ≡ Some byte) same found) in

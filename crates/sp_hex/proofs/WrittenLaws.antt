@@ -1,5 +1,5 @@
 -- The text of an image stands for it, and what is cut from its end doesn't.
-use Rattle.std.proofs.Common.{◌≡◌, ℕ, zero, suc, ◌+◌, ◌-◌, ◌*◌, ◌/◌, ◌%◌, ◌<◌, ◌≤◌, Bool, true, false, ◌&&◌, T, eqb, List, [], ◌∷◌, ◌++◌, length, map, take, drop, get_or, sum, refl, sym, ap, subst, ◌∙◌, inl, inr, Some, None, All, arith, rules, append_assoc, length-append}
+use Rattle.std.proofs.Common.{◌≡◌, ℕ, zero, suc, ◌+◌, ◌-◌, ◌*◌, ◌/◌, ◌%◌, ◌<◌, ◌≤◌, false, T, eqb, List, [], ◌∷◌, ◌++◌, length, map, take, drop, get_or, sum, refl, sym, ap, subst, ◌∙◌, inl, inr, Some, None, All, arith, append_assoc, length-append}
 use Rattle.std.specs.Prelude.{nat_eq, option_map}
 use Rattle.std.specs.List.{AllByRecursion, AllZip, IsDistinct, flat_map}
 use Rattle.std.specs.Str.Lines.{lines, strip_carriage_return}
@@ -18,6 +18,7 @@ use Rattle.sp_hex.specs.Hex.{Data, cells_at, cells_of, fields, data_type, end_ty
 use Rattle.sp_hex.proofs.LineLaws.{is_feed, lines_cons, lines_one}
 use Rattle.sp_hex.proofs.RecordLaws.{AreBytes, then_some, map_some, chosen, some_is, not_none}
 use Rattle.sp_hex.proofs.RowLaws.{data_text, written_made}
+use Rattle.sp_hex.proofs.FindLaws.{order_parts, less}
 
 -- ---- Digits
 
@@ -183,17 +184,10 @@ each_right : (records : List Data) → AllByRecursion Good records → AllZip Is
 each_right [] h = tt
 each_right (d ∷ records) h = (data_right d h.0, each_right records h.1)
 
-and_parts : (x y : Bool) → T (x && y) → T x × T y
-and_parts true y h = (tt, h)
-and_parts false y h = absurd h
-
-less : (a b : ℕ) → T (is_lt (nat_cmp a b)) → a < b
-less a b h = search rules
-
 all_apart : (a : ℕ) (cells : List (ℕ × ℕ)) → T (below_all nat_cmp a cells) → AllByRecursion (λ y. nat_eq a y ≡ false) (map (λ c. c.0) cells)
 all_apart a [] h = tt
 all_apart a (c ∷ cells) h =
-    let p = and_parts (is_lt (nat_cmp a c.0)) (below_all nat_cmp a cells) h in
+    let p = order_parts (is_lt (nat_cmp a c.0)) (below_all nat_cmp a cells) h in
     let lt = less a c.0 p.0 in
     (ne_eqb a c.0 (λ e. absurd (omega arith)), all_apart a cells p.1)
 
@@ -201,7 +195,7 @@ sorted_apart : (cells : List (ℕ × ℕ)) → T (is_sorted nat_cmp cells) → I
 unfolding IsDistinct
 sorted_apart [] h = tt
 sorted_apart (c ∷ cells) h =
-    let p = and_parts (below_all nat_cmp c.0 cells) (is_sorted nat_cmp cells) h in
+    let p = order_parts (below_all nat_cmp c.0 cells) (is_sorted nat_cmp cells) h in
     (all_apart c.0 cells p.0, sorted_apart cells p.1)
 
 image_of_cells : (image : ImageMap) → image ≡ maps.from_entries (maps.entries image)
@@ -339,7 +333,7 @@ text_cut image other n h few s =
 above : (a : ℕ) (cells : List (ℕ × ℕ)) → T (below_all nat_cmp a cells) → AllByRecursion (λ c. a + 1 ≤ c.0) cells
 above a [] h = tt
 above a (c ∷ cells) h =
-    let p = and_parts (is_lt (nat_cmp a c.0)) (below_all nat_cmp a cells) h in
+    let p = order_parts (is_lt (nat_cmp a c.0)) (below_all nat_cmp a cells) h in
     let lt = less a c.0 p.0 in
     (omega arith, above a cells p.1)
 
@@ -347,7 +341,7 @@ above a (c ∷ cells) h =
 few_cells : (a : ℕ) (cells : List (ℕ × ℕ)) → a ≤ 65536 → T (is_sorted nat_cmp cells) → AllByRecursion (λ c. a ≤ c.0) cells → AllByRecursion Cell cells → a + length cells ≤ 65536
 few_cells a [] low sorted from h = omega (arith, low)
 few_cells a (c ∷ cells) low sorted from h =
-    let p = and_parts (below_all nat_cmp c.0 cells) (is_sorted nat_cmp cells) sorted in
+    let p = order_parts (below_all nat_cmp c.0 cells) (is_sorted nat_cmp cells) sorted in
     let rest = few_cells (c.0 + 1) cells (omega (arith, h.0.0)) p.1 (above c.0 cells p.0) h.1 in
     omega (arith, from.0, rest)
 
