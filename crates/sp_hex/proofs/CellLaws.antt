@@ -1,5 +1,5 @@
 -- Bytes that are put into an image one after another, none of them where one is already.
-use Rattle.std.proofs.Common.{◌≡◌, ◌≢◌, ℕ, ◌+◌, false, cond, List, [], ◌∷◌, ◌++◌, map, refl, sym, ap, subst, ◌∙◌, inl, inr, Option, Some, None, rules, append_assoc}
+use Rattle.std.proofs.Common.{◌≡◌, ◌≢◌, ℕ, ◌+◌, false, cond, List, [], ◌∷◌, ◌++◌, map, refl, sym, ap, subst, ◌∙◌, inl, inr, Option, Some, None, append_assoc}
 use Rattle.std.specs.Prelude.{nat_eq, is_some, unwrap_or}
 use Rattle.std.specs.List.{IsDistinct, AllByRecursion}
 use Rattle.std.specs.Ordering.{nat_cmp}
@@ -12,9 +12,7 @@ use Rattle.std.proofs.lemmas.List.Concat.{flat_map-append}
 use Rattle.sp_base.specs.Image.{ImageMap}
 use Rattle.sp_hex.specs.Hex.{Data, cells_at, cells_of}
 use Rattle.sp_hex.specs.Reading.{placed}
-
-abbrev pub Cells : Type 0
-Cells = List (ℕ × ℕ)
+use Rattle.sp_hex.proofs.FindLaws.{Cells, here, other, some_is_not_none}
 
 abbrev addresses : Cells → List ℕ
 addresses = map (λ c. c.0)
@@ -22,15 +20,6 @@ addresses = map (λ c. c.0)
 -- no address stands twice
 abbrev pub Apart : Cells → Type 0
 Apart cells = IsDistinct nat_eq (addresses cells)
-
-here : (c : ℕ × ℕ) (cells : Cells) → find nat_cmp c.0 (c ∷ cells) ≡ Some c.1
-here c cells = search rules
-
-other : (q : ℕ) (c : ℕ × ℕ) (cells : Cells) → q ≢ c.0 → find nat_cmp q (c ∷ cells) ≡ find nat_cmp q cells
-other q c cells ne = search rules
-
-some_is_not_none : (x : ℕ) (o : Option ℕ) → o ≡ Some x → o ≡ None → ⊥
-some_is_not_none x o some none = cc
 
 module _ (P : ℕ → Type 0) where
   all_middle : (xs : Cells) (c : ℕ × ℕ) (ys : Cells) → AllByRecursion P (addresses (xs ++ c ∷ ys)) → P c.0
@@ -63,7 +52,7 @@ apart_push (x ∷ xs) c h none =
     let ne : c.0 ≢ x.0 = λ e. some_is_not_none x.1 _ (here x xs) (subst (λ k. find nat_cmp k (x ∷ xs) ≡ None) e none) in
     (all_push (λ y. nat_eq x.0 y ≡ false) xs c h.0 (ne_eqb x.0 c.0 (λ e. ne (sym e))), apart_push xs c h.1 (sym (other c.0 x xs ne) ∙ none))
 
-abbrev map_of : Cells → ImageMap
+abbrev pub map_of : Cells → ImageMap
 map_of = maps.from_entries {R = nat_cmp}
 
 free : (xs : Cells) (a : ℕ) → find nat_cmp a xs ≡ None → maps.contains_key (map_of xs) a ≡ false
@@ -76,7 +65,7 @@ none_of : (o : Option ℕ) → is_some o ≡ false → o ≡ None
 none_of None h = refl
 none_of (Some x) h = absurd cc
 
-some_map : (image : ImageMap) → ◌≡◌ {A = Option ImageMap} (Some image) None → ⊥
+pub some_map : (image : ImageMap) → ◌≡◌ {A = Option ImageMap} (Some image) None → ⊥
 some_map image e = cc
 
 -- bytes at new addresses are placed

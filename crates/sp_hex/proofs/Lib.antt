@@ -1,8 +1,10 @@
 pub mod CellLaws
 pub mod DigitLaws
+pub mod FindLaws
 pub mod LineLaws
 pub mod LoopLaws
 pub mod PlaceLaws
 pub mod RecordLaws
 pub mod RowLaws
 pub mod TextLaws
+pub mod WrittenLaws

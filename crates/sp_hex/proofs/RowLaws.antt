@@ -1,25 +1,19 @@
 -- The cells of an image by rising address, and the records that they are written in.
-use Rattle.std.proofs.Common.{◌≡◌, ◌≢◌, ◌⊎◌, ℕ, suc, ◌+◌, ◌<◌, ◌≤◌, Bool, true, false, ◌&&◌, T, eqb, ltb, List, [], ◌∷◌, ◌++◌, length, refl, sym, ap, subst, ◌∙◌, inl, inr, Some, None, arith, rules, append_assoc}
-use Rattle.std.specs.Prelude.{filter, nat_le, Option}
-use Rattle.std.proofs.lemmas.Bool.{cases_lt, cases_eq, cases_order, le-leb, lt-leb, le-ltb, lt-ltb, eq-eqb, ne_eqb, and_left, and_right, and_from, cond-true, cond-false}
+use Rattle.std.proofs.Common.{◌≡◌, ◌⊎◌, ℕ, suc, ◌+◌, ◌<◌, ◌≤◌, Bool, true, false, ◌&&◌, T, eqb, ltb, List, [], ◌∷◌, ◌++◌, length, refl, sym, ap, subst, ◌∙◌, inl, inr, Some, None, arith, append_assoc}
+use Rattle.std.specs.Prelude.{filter, nat_le}
+use Rattle.std.proofs.lemmas.Bool.{cases_lt, cases_eq, cases_order, le-leb, lt-leb, le-ltb, lt-ltb, eq-eqb, ne_eqb, and_left, and_right, and_from, cond-true, cond-false, cases_Bool, eqb-true, ltb-true, ltb-false, false≢true}
 use Rattle.std.proofs.lemmas.List.{append-nil, length_push}
 use Rattle.std.specs.Ordering.{nat_cmp, is_lt}
-use Rattle.std.specs.List.{flat_map}
+use Rattle.std.specs.List.{flat_map, AllByRecursion}
 use Rattle.std.specs.FinMap as maps
 use Rattle.std.specs.FinMap.{find, is_sorted}
 use Rattle.std.specs.FinMap.Entries.{below_all}
 use Rattle.sp_base.specs.Image.{ImageMap, NextByte, NoByteFrom}
-use Rattle.sp_hex.specs.Hex.{Data, cells_at, records_from, records_of, written_record, data_type, end_type, text}
+use Rattle.sp_hex.specs.Hex.{Data, cells_at, cells_of, AreFull, AreWritten, records_from, records_of, written_record, data_type, end_type, text}
 use Rattle.sp_hex.specs.Rows.{rising, AreNext, IsRow}
+use Rattle.sp_hex.proofs.FindLaws.{Cells, here, other, some_is_not_none, order_parts, less}
 
 -- ---- Small things
-
-and_parts : (x y : Bool) → T (x && y) → T x × T y
-and_parts true y h = (tt, h)
-and_parts false y h = absurd h
-
-less : (a b : ℕ) → T (is_lt (nat_cmp a b)) → a < b
-less a b h = search rules
 
 some_is : {x y : ℕ} → Some x ≡ Some y → x ≡ y
 some_is e = cc
@@ -35,24 +29,12 @@ shift a n m e = omega arith
 
 -- ---- The cells from an address on
 
-abbrev Cells : Type 0
-Cells = List (ℕ × ℕ)
-
 abbrev from : ℕ → Cells → Cells
 from a = filter (λ c. nat_le a c.0)
 
 from_zero : (cells : Cells) → from 0 cells ≡ cells
 from_zero [] = refl
 from_zero (c ∷ cells) = rw (le-leb 0 c.0 (omega arith)) (ap (λ (x : Cells). c ∷ x) (from_zero cells))
-
-here : (c : ℕ × ℕ) (cells : Cells) → find nat_cmp c.0 (c ∷ cells) ≡ Some c.1
-here c cells = search rules
-
-other : (q : ℕ) (c : ℕ × ℕ) (cells : Cells) → q ≢ c.0 → find nat_cmp q (c ∷ cells) ≡ find nat_cmp q cells
-other q c cells ne = search rules
-
-some_is_not_none : (x : ℕ) (o : Option ℕ) → o ≡ Some x → o ≡ None → ⊥
-some_is_not_none x o some none = cc
 
 -- what is not found behind the first cell either
 not_behind : (q : ℕ) (c : ℕ × ℕ) (cells : Cells) → find nat_cmp q (c ∷ cells) ≡ None → find nat_cmp q cells ≡ None
@@ -84,7 +66,7 @@ none_between a b (c ∷ cells) le none =
 not_above : (q a : ℕ) (cells : Cells) → q ≤ a → T (below_all nat_cmp a cells) → find nat_cmp q cells ≡ None
 not_above q a [] le above = refl
 not_above q a (c ∷ cells) le above =
-    let p = and_parts (is_lt (nat_cmp a c.0)) (below_all nat_cmp a cells) above in
+    let p = order_parts (is_lt (nat_cmp a c.0)) (below_all nat_cmp a cells) above in
     let lt : a < c.0 = less a c.0 p.0 in
     other q c cells (λ e. absurd (omega arith)) ∙ not_above q a cells le p.1
 
@@ -92,7 +74,7 @@ not_above q a (c ∷ cells) le above =
 pub cell_from : (a byte : ℕ) (cells : Cells) → T (is_sorted nat_cmp cells) → find nat_cmp a cells ≡ Some byte → from a cells ≡ (a, byte) ∷ from (a + 1) cells
 cell_from a byte [] sorted found = absurd (some_is_not_none byte None found refl)
 cell_from a byte (c ∷ cells) sorted found =
-    let p = and_parts (below_all nat_cmp c.0 cells) (is_sorted nat_cmp cells) sorted in
+    let p = order_parts (below_all nat_cmp c.0 cells) (is_sorted nat_cmp cells) sorted in
     elim (cases_order a c.0) [
       | inl same ↦
           let value : c.1 ≡ byte = some_is (sym (here c cells) ∙ subst (λ k. find nat_cmp k (c ∷ cells) ≡ Some byte) same found) in
@@ -221,3 +203,95 @@ unfolding text
 write_end image a old new none put so_far =
     let all : old ≡ data_text (records_of (maps.entries image)) = sym (append-nil old) ∙ ap (λ (x : Cells). old ++ data_text (records_of x)) (sym (rising_none image a none)) ∙ so_far in
     put ∙ ap (λ (x : List ℕ). x ++ written_record end_type 0 []) all
+
+-- ---- The written form
+
+abbrev Short : Data → Type 0
+Short d = (0 < length d.bytes) × (length d.bytes ≤ 16)
+
+-- the first record is at this address
+abbrev FirstAt : List Data → ℕ → Type 0
+FirstAt [] a = ⊥
+FirstAt (d ∷ records) a = d.address ≡ a
+
+full_cons : (d : Data) (records : List Data) (a : ℕ) → FirstAt records a → (a ≡ d.address + length d.bytes → length d.bytes ≡ 16) → AreFull records → AreFull (d ∷ records)
+full_cons d [] a first full rest = tt
+full_cons d (e ∷ records) a first full rest = (λ at. full (sym first ∙ at), rest)
+
+and_both : (x y : Bool) → (x && y) ≡ true → (x ≡ true) × (y ≡ true)
+and_both true y h = (refl, h)
+and_both false y h = absurd (false≢true h)
+
+off : (x y : Bool) → x ≡ true → (x && y) ≡ false → y ≡ false
+off true y is h = h
+off false y is h = absurd (false≢true is)
+
+at_most : (n : ℕ) → n ≤ 16 → 16 ≤ n → n ≡ 16
+at_most n le ge = omega arith
+
+begins_first : (a : ℕ) (bytes : List ℕ) (rest : Cells) (at : ℕ) → 0 < length bytes → BeginsAt (cells_at a bytes ++ rest) at → a ≡ at
+begins_first a [] rest at some begins = absurd (omega arith)
+begins_first a (b ∷ bytes) rest at some begins = begins
+
+record Made (d : Data) (cells : Cells) (records : List Data) : Type 0 where
+  whole : cells_of records ≡ cells_at d.address d.bytes ++ cells
+  short : AllByRecursion Short records
+  full : AreFull records
+  first : FirstAt records d.address
+
+made : (d : Data) (cells : Cells) → Short d → Made d cells (records_from d cells)
+unfolding records_from
+made d [] short = record { whole = refl; short = (short, tt); full = tt; first = refl }
+made d (c ∷ cells) short =
+    let joins : Bool = eqb c.0 (d.address + length d.bytes) && ltb (length d.bytes) 16 in
+    let longer : Data = record { address = d.address; bytes = d.bytes ++ c.1 ∷ [] } in
+    let next : Data = record { address = c.0; bytes = c.1 ∷ [] } in
+    elim (cases_Bool joins) [
+      | inl joined ↦
+          let tests = and_both (eqb c.0 (d.address + length d.bytes)) (ltb (length d.bytes) 16) joined in
+          let len : length (d.bytes ++ c.1 ∷ []) ≡ length d.bytes + 1 = length_push d.bytes c.1 in
+          let more = made longer cells (omega (arith, len), omega (arith, len, ltb-true (length d.bytes) 16 tests.1)) in
+          let at : c.0 ≡ d.address + length d.bytes = eqb-true _ _ tests.0 in
+          subst (Made d (c ∷ cells)) (sym (cond-true joins (records_from longer cells) (d ∷ records_from next cells) joined)) (record {
+            whole = more.whole ∙ cells_push d.address d.bytes c.1 cells ∙ ap (λ (k : ℕ). cells_at d.address d.bytes ++ (k, c.1) ∷ cells) (sym at);
+            short = more.short;
+            full = more.full;
+            first = more.first;
+          })
+      | inr not_joined ↦
+          let more = made next cells (omega arith, omega arith) in
+          subst (Made d (c ∷ cells)) (sym (cond-false joins (records_from longer cells) (d ∷ records_from next cells) not_joined)) (record {
+            whole = ap (λ (x : Cells). cells_at d.address d.bytes ++ x) more.whole;
+            short = (short, more.short);
+            full = full_cons d (records_from next cells) c.0 more.first (λ at. at_most (length d.bytes) short.1
+                (ltb-false _ _ (off (eqb c.0 (d.address + length d.bytes)) (ltb (length d.bytes) 16) (eq-eqb _ _ at) not_joined))) more.full;
+            first = refl;
+          })
+    ]
+
+pub written_made : (cells : Cells) → AreWritten cells (records_of cells)
+written_made [] = record { whole = refl; short = tt; full = tt }
+written_made (c ∷ cells) =
+    let h = made (record { address = c.0; bytes = c.1 ∷ [] }) cells (omega arith, omega arith) in
+    record { whole = h.whole; short = h.short; full = h.full }
+
+begins_full : (d : Data) (records : List Data) → AllByRecursion Short records → AreFull (d ∷ records) → BeginsAt (cells_of records) (d.address + length d.bytes) → length d.bytes ≡ 16
+begins_full d [] short full begins = absurd begins
+begins_full d (e ∷ records) short full begins = full.0 (begins_first e.address e.bytes (cells_of records) _ short.0.0 begins)
+
+full_tail : (d : Data) (records : List Data) → AreFull (d ∷ records) → AreFull records
+full_tail d [] full = tt
+full_tail d (e ∷ records) full = full.1
+
+records_only : (records : List Data) → AllByRecursion Short records → AreFull records → records ≡ records_of (cells_of records)
+records_only [] short full = refl
+records_only (d ∷ records) short full =
+    let ends : (length d.bytes ≡ 16) ⊎ ¬ (BeginsAt (cells_of records) (d.address + length d.bytes)) = elim (cases_eq (length d.bytes) 16) [
+      | inl whole ↦ inl whole
+      | inr part ↦ inr (λ begins. part (begins_full d records short.1 full begins))
+    ] in
+    ap (λ (x : List Data). d ∷ x) (records_only records short.1 (full_tail d records full))
+    ∙ sym (records-row d.address d.bytes (cells_of records) short.0.0 short.0.1 ends)
+
+pub written_only : (cells : Cells) (records : List Data) → AreWritten cells records → records ≡ records_of cells
+written_only cells records h = records_only records h.short h.full ∙ ap records_of h.whole

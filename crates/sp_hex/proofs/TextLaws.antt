@@ -2,7 +2,6 @@
 use Rattle.std.proofs.Common.{◌≡◌, ◌≢◌, ◌⊎◌, ℕ, suc, ◌+◌, eqb, List, [], ◌∷◌, ◌++◌, length, refl, sym, ap, subst, ◌∙◌, inl, inr, Option, Some, None, Result, Ok, Err, All, arith, append_assoc}
 use Rattle.std.specs.Prelude.{IfOk, IfErr}
 use Rattle.std.specs.List.{AllZip, AllByRecursion, IsDistinct}
-use Rattle.std.specs.Ordering.{nat_cmp}
 use Rattle.std.specs.FinMap as maps
 use Rattle.std.specs.Str.Lines.{lines}
 use Rattle.std.proofs.lemmas.Bool.{cases_Bool, eqb-true, eqb-false, eq-eqb, ne_eqb, cond-true, cond-false}
@@ -16,11 +15,9 @@ use Rattle.sp_hex.specs.declared.refusal.HexRefusal.TheVariants as refusals
 use Rattle.sp_hex.specs.Hex.{Data, cells_at, cells_of, IsDataLine, IsEndLine, NoneTwice, StandsFor}
 use Rattle.sp_hex.specs.Refusals.{Reaches, NoEndIn, IsCause}
 use Rattle.sp_hex.specs.Reading.{Content, data_record, end_record, ◌>>=◌, Fails, Gives, or_overlap, after_record, record_at, placed, empty_from, reading}
-use Rattle.sp_hex.proofs.CellLaws.{Cells, Apart, apart_front, placed_apart, placed_some, cells_more}
+use Rattle.sp_hex.proofs.CellLaws.{Apart, map_of, some_map, apart_front, placed_apart, placed_some, cells_more}
 use Rattle.sp_hex.proofs.RecordLaws.{Tells, record_tells, data_again, end_again, bad_record_again, bad_sum_again}
-
-abbrev map_of : Cells → ImageMap
-map_of = maps.from_entries {R = nat_cmp}
+use Rattle.sp_hex.proofs.FindLaws.{Cells}
 
 abbrev Texts : Type 0
 Texts = List (List ℕ)
@@ -153,9 +150,6 @@ is_ended text number records line more f right (Err (refusals.BadSum at)) h = ab
 is_ended text number records line more f right (Err (refusals.Overlap at)) h = absurd h
 is_ended text number records line more f right (Err refusals.NoEnd) h = absurd h
 is_ended text number records line more f right (Err refusals.Memory) h = absurd h
-
-some_map : (image : ImageMap) → ◌≡◌ {A = Option ImageMap} (Some image) None → ⊥
-some_map image e = cc
 
 overlaps : (records : List Data) (d : Data) → placed d.address d.bytes (map_of (cells_of records)) ≡ None → ¬ (NoneTwice (records ++ d ∷ []))
 overlaps records d none apart =
@@ -319,3 +313,30 @@ gives_all (Err refusal) total other h is = elim (some_or_memory total refusal h)
   | inl memory ↦ inr (ap (λ (e : HexRefusal). Err e) memory)
   | inr found ↦ inl (sym found ∙ is)
 ]
+
+-- ---- One answer
+
+answer_ok : (a b : ImageMap) → ◌≡◌ {A = Result ImageMap HexRefusal} (Ok a) (Ok b) → a ≡ b
+answer_ok a b e = cc
+
+answer_err : (a b : HexRefusal) → ◌≡◌ {A = Result ImageMap HexRefusal} (Err a) (Err b) → a ≡ b
+answer_err a b e = cc
+
+not_both : (a : ImageMap) (b : HexRefusal) → ◌≡◌ {A = Result ImageMap HexRefusal} (Ok a) (Err b) → ⊥
+not_both a b e = cc
+
+pub one_image : (t : List ℕ) (a b : ImageMap) → StandsFor t a → StandsFor t b → a ≡ b
+one_image t a b h k = answer_ok a b (sym (image_again t a h) ∙ image_again t b k)
+
+pub one_refusal : (t : List ℕ) (a b : HexRefusal) → IsCause t a → IsCause t b → a ≡ b
+one_refusal t a b h k = answer_err a b (sym (cause_again t a h) ∙ cause_again t b k)
+
+pub never_both : (t : List ℕ) (image : ImageMap) (refusal : HexRefusal) → StandsFor t image → ¬ (IsCause t refusal)
+never_both t image refusal h k = not_both image refusal (sym (image_again t image h) ∙ cause_again t refusal k)
+
+one_of : (t : List ℕ) (r : Result ImageMap HexRefusal) → IsAnswer t r → ((image : ImageMap) × StandsFor t image) ⊎ ((refusal : HexRefusal) × IsCause t refusal)
+one_of t (Ok image) h = inl (image, h)
+one_of t (Err refusal) h = inr (refusal, h)
+
+pub always_one : (t : List ℕ) → ((image : ImageMap) × StandsFor t image) ⊎ ((refusal : HexRefusal) × IsCause t refusal)
+always_one t = one_of t (reading 1 maps.empty (lines t)) (reading_answers t)

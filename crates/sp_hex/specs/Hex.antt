@@ -1,6 +1,6 @@
 -- Intel HEX: the texts that stand for an image, and the text of an image as it is written.
-use Rattle.std.specs.Prelude.{◌≡◌, ◌⊎◌, ℕ, ◌+◌, ◌-◌, ◌*◌, ◌/◌, ◌%◌, ◌≤◌, nat_le, nat_lt, nat_eq, ◌==◌, ◌&&◌, if◌then◌else◌, List, [], ◌∷◌, ◌++◌, length, map, sum, All, Option, Some, None, option_and_then, option_map}
-use Rattle.std.specs.List.{flat_map, AllZip, IsDistinct}
+use Rattle.std.specs.Prelude.{◌≡◌, ◌⊎◌, ℕ, ◌+◌, ◌-◌, ◌*◌, ◌/◌, ◌%◌, ◌<◌, ◌≤◌, nat_le, nat_lt, nat_eq, ◌==◌, ◌&&◌, if◌then◌else◌, List, [], ◌∷◌, ◌++◌, length, map, sum, All, Option, Some, None, option_and_then, option_map, codes}
+use Rattle.std.specs.List.{flat_map, AllZip, IsDistinct, AllByRecursion}
 use Rattle.std.specs.Str.Lines.{lines}
 use Rattle.std.specs.FinMap as maps
 use Rattle.sp_base.specs.Image.{ImageMap}
@@ -34,7 +34,7 @@ end_type = 1
 
 -- ---- Lines
 
--- the value of a hexadecimal digit of either case
+-- the value of a hexadecimal digit: 0 to 9, A to F or a to f
 abbrev pub digit_value : ℕ → Option ℕ
 digit_value c =
     if nat_le 48 c && nat_le c 57 then Some (c - 48) else
@@ -91,7 +91,7 @@ abbrev pub NoneTwice : List Data → Type 0
 NoneTwice records = IsDistinct nat_eq (map (λ c. c.0) (cells_of records))
 
 -- the text stands for the image: its lines are data records, then one end record, then nothing but empty lines,
--- no address is given twice, and the image has exactly the records' bytes
+-- no address is given twice, and the image has exactly the records' bytes. LF or CRLF ends a line, and the last may have no end
 pub record StandsFor (text : List ℕ) (image : ImageMap) : Type 0 where
   pub before : List (List ℕ)
   pub last : List ℕ
@@ -123,7 +123,8 @@ abbrev pub written_record : ℕ → ℕ → List ℕ → List ℕ
 written_record kind address bytes =
     58 ∷ flat_map two_digits (fields kind address bytes ++ checksum_of (fields kind address bytes) ∷ []) ++ 10 ∷ []
 
--- cells in rising order as data records, the first of them begun: a cell joins the record that it stands right behind, if that has fewer than 16 bytes
+-- cells in rising order as data records, the first of them begun: a cell joins the record if it stands right behind it,
+-- and the record has fewer than 16 bytes. `AreWritten`, below, says what these records are
 unfoldable pub records_from : Data → List (ℕ × ℕ) → List Data
 records_from d [] = d ∷ []
 records_from d (c ∷ cells) =
@@ -135,8 +136,25 @@ abbrev pub records_of : List (ℕ × ℕ) → List Data
 records_of [] = []
 records_of (c ∷ cells) = records_from (record { address = c.0; bytes = c.1 ∷ [] }) cells
 
+-- a record that another goes on from, at the next address, has 16 bytes
+abbrev pub AreFull : List Data → Type 0
+AreFull [] = Unit {0}
+AreFull (d ∷ []) = Unit {0}
+AreFull (d ∷ e ∷ records) = (e.address ≡ d.address + length d.bytes → length d.bytes ≡ 16) × AreFull (e ∷ records)
+
+-- the records that cells in rising order are written in: they give these cells, in this order, each has 1 to 16 bytes,
+-- and each but the last of a run has 16
+pub record AreWritten (cells : List (ℕ × ℕ)) (records : List Data) : Type 0 where
+  pub whole : cells_of records ≡ cells
+  pub short : AllByRecursion (λ d. (0 < length d.bytes) × (length d.bytes ≤ 16)) records
+  pub full : AreFull records
+
+-- the end record as it is written, with its line feed
+abbrev pub end_line : List ℕ
+end_line = codes ":00000001FF" ++ 10 ∷ []
+
 -- the text of an image: its data records by rising address, and the end record
 unfoldable pub text : ImageMap → List ℕ
 text image =
     flat_map (λ d. written_record data_type d.address d.bytes) (records_of (maps.entries image))
-    ++ written_record end_type 0 []
+    ++ end_line

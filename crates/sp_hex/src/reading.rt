@@ -1,9 +1,9 @@
-ghost use Rattle.std.specs.Prelude.{◌≡◌, ◌⊎◌, ◌≢◌, ℕ, ◌+◌, ◌<◌, ◌≤◌, ◌^◌, length, Option, Some, None, Ok, Err, IfOk, IfErr, option_map};
+ghost use Rattle.std.specs.Prelude.{◌≡◌, ◌⊎◌, ◌+◌, ◌<◌, ◌≤◌, ◌^◌, length, IfOk, IfErr, option_map};
 ghost use Rattle.std.specs.FinMap as maps;
 ghost use Rattle.std.specs.Str.Lines.{lines};
 ghost use Rattle.sp_base.specs.Image.{ImageMap};
 ghost use Rattle.sp_hex.specs.declared.refusal.HexRefusal.{HexRefusal};
-ghost use Rattle.sp_hex.specs.Hex.{digit_value, byte_of, bytes_of, line_bytes, StandsFor};
+ghost use Rattle.sp_hex.specs.Hex.{digit_value, byte_of, bytes_of, StandsFor};
 ghost use Rattle.sp_hex.specs.Refusals.{IsCause};
 ghost use Rattle.sp_hex.specs.Reading.{byte_at, Gives, content, content_of, record_at, placed, IsPlaced, empty_from, reading};
 

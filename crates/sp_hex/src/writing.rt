@@ -1,7 +1,7 @@
-ghost use Rattle.std.specs.Prelude.{◌≡◌, ◌+◌, ◌*◌, ◌/◌, ◌%◌, ◌^◌, ◌<◌, ◌≤◌, ◌++◌, ◌∷◌, [], ℕ, length, IfOk, OnOk, Some};
+ghost use Rattle.std.specs.Prelude.{◌≡◌, ◌<◌, ◌++◌, length, IfOk, OnOk};
 ghost use Rattle.std.specs.FinMap as maps;
 ghost use Rattle.std.specs.List.{flat_map};
-ghost use Rattle.sp_hex.specs.Hex.{digit, two_digits, checksum_of, fields, written_record, text};
+ghost use Rattle.sp_hex.specs.Hex.{digit, two_digits, checksum_of, written_record, text};
 ghost use Rattle.sp_hex.specs.Rows.{IsRow};
 
 use crate::record::{DATA, END, low_sum};

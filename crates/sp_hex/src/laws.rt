@@ -1,0 +1,31 @@
+//! What holds of texts and images alone, as contracts of functions that do nothing.
+
+ghost use Rattle.std.specs.Prelude.{◌≡◌, ◌⊎◌, ℕ, ◌+◌, ◌-◌, ◌≤◌, List, length, take};
+ghost use Rattle.std.specs.FinMap as maps;
+ghost use Rattle.sp_base.specs.Image.{ImageMap, IsInMemory};
+ghost use Rattle.sp_hex.specs.declared.refusal.HexRefusal.{HexRefusal};
+ghost use Rattle.sp_hex.specs.Hex.{Data, StandsFor, AreWritten, records_of, text};
+ghost use Rattle.sp_hex.specs.Refusals.{IsCause};
+
+/// A text stands for one image, or one refusal has its cause in it, and never both.
+pub fn one_answer()
+    ensures image { (t : List ℕ) (a b : ImageMap) → StandsFor t a → StandsFor t b → a ≡ b }
+    ensures refusal { (t : List ℕ) (a b : HexRefusal) → IsCause t a → IsCause t b → a ≡ b }
+    ensures apart { (t : List ℕ) (image : ImageMap) (refusal : HexRefusal) → StandsFor t image → ¬ (IsCause t refusal) }
+    ensures some { (t : List ℕ) → ((image : ImageMap) × StandsFor t image) ⊎ ((refusal : HexRefusal) × IsCause t refusal) }
+{}
+
+/// The records of an image are those in the one form in which they are written.
+pub fn written_form()
+    ensures made { (image : ImageMap) → AreWritten (maps.entries image) (records_of (maps.entries image)) }
+    ensures only { (cells : List (ℕ × ℕ)) (records : List Data) → AreWritten cells records → records ≡ records_of cells }
+{}
+
+/// The text of an image stands for it, with its last line feed or without. A text that is cut by more stands for no image.
+pub fn written_text()
+    ensures whole { (image : ImageMap) → IsInMemory image → StandsFor (text image) image }
+    ensures unended { (image : ImageMap) → IsInMemory image → StandsFor (take (length (text image) - 1) (text image)) image }
+    // 65,536 records of one byte and the end record are the most.
+    ensures short { (image : ImageMap) → IsInMemory image → length (text image) ≤ 917516 }
+    ensures cut { (image other : ImageMap) (n : ℕ) → IsInMemory image → n + 2 ≤ length (text image) → ¬ (StandsFor (take n (text image)) other) }
+{}
