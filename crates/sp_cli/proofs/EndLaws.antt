@@ -1,18 +1,17 @@
 -- How a command ends, from how its text was put.
-use Rattle.std.proofs.Common.{◌≡◌, ℕ, Bool, List, ◌++◌, refl, sym, ap, subst, ◌∙◌, Some, None, ◌⊎◌, inl, inr}
-use Rattle.std.specs.Prelude.{Option, Result, Ok, Err, IsTrue}
+use Rattle.std.proofs.Common.{◌≡◌, ℕ, Bool, List, refl, sym, ap, subst, ◌∙◌, Some, inl, inr}
+use Rattle.std.specs.Prelude.{Option, IsTrue}
 use Rattle.sp_base.specs.Image.{ImageMap}
-use Rattle.sp_base.specs.Files.{Rose, IsFrontOf}
+use Rattle.sp_base.specs.Files.{IsFrontOf}
 use Rattle.sp_hex.specs.Hex.{text}
-use Rattle.sp_first.specs.Right.{IsTheImage, IsAccepted}
 use Rattle.sp_cli.specs.declared.status.Status.{Status}
 use Rattle.sp_cli.specs.declared.status.Status.TheVariants as status
-use Rattle.sp_cli.specs.Command.{Command, Verify, image_name, Refusal, Contents, HasInputs, Stands, Accepts}
+use Rattle.sp_cli.specs.Command.{Command, Verify, image_name, Refusal, Contents, Stands, Accepts}
 use Rattle.sp_cli.specs.Space.{Took, RightImage, HoldsImage, HoldsFront}
 use Rattle.sp_cli.specs.Stop.{AcceptsWith}
 use Rattle.sp_cli.specs.Texts.{refusal_text, accepted_text}
-use Rattle.sp_cli.specs.Ends.{PutEnds, TookFrontOf}
-use Rattle.sp_cli.specs.After.{RefusedAs, ImageAfter, PutsText, TookSome, SinkAfter}
+use Rattle.sp_cli.specs.Ends.{PutEnds}
+use Rattle.sp_cli.specs.After.{RefusedAs, ImageAfter, SinkAfter}
 
 module _ (c : Command) (told : Bool) (files : Contents) (sink_told : Bool) (before after : List ℕ) (faults_before faults_after : ℕ) (result : Status) where
   pub took : (which : Status) (line : List ℕ) → (status.SinkFault ≡ which → ⊥) → (status.Memory ≡ which → ⊥) → PutEnds which line sink_told before after faults_before faults_after result → result ≡ which → Took sink_told before after line

@@ -1,17 +1,15 @@
 -- Command lines: their one form, and what excludes a refusal.
-use Rattle.std.proofs.Common.{◌≡◌, ◌≢◌, ℕ, ◌<◌, ◌≤◌, List, [], ◌∷◌, ◌++◌, length, get_or, Bool, refl, sym, ap, subst, ◌∙◌, Some, None, ◌⊎◌, inl, inr, arith}
+use Rattle.std.proofs.Common.{◌≡◌, ◌≢◌, ℕ, ◌<◌, ◌≤◌, List, [], length, get_or, Bool, refl, sym, ap, subst, ◌∙◌, Some, None, ◌⊎◌, inl, inr, arith}
 use Rattle.std.specs.Prelude.{Option, IsTrue}
-use Rattle.sp_first.specs.Form.{Form}
-use Rattle.sp_first.specs.Program.{Reading, Meets}
+use Rattle.sp_first.specs.Program.{Meets}
 use Rattle.sp_first.specs.Right.{IsAccepted, IsOpen}
 use Rattle.sp_first.proofs.RightLaws.{one_reading}
-use Rattle.sp_base.specs.Files.{Rose, IsFrontOf}
 use Rattle.sp_cli.specs.declared.status.Status.{Status}
 use Rattle.sp_cli.specs.declared.status.Status.TheVariants as status
-use Rattle.sp_cli.specs.Command.{Command, Verify, HasForm, HasNoForm, image_name, Refusal, Missing, TooLarge, NotBuilt, Open, Source, Scripts, Contents, HasInputs, Stands, Accepts}
+use Rattle.sp_cli.specs.Command.{Command, Verify, HasForm, Refusal, Missing, TooLarge, NotBuilt, Open, Source, Scripts, Contents, Stands, Accepts}
 use Rattle.sp_cli.specs.Space.{Took}
 use Rattle.sp_cli.specs.Texts.{usage_text}
-use Rattle.sp_cli.specs.Ends.{PutEnds, TookFrontOf}
+use Rattle.sp_cli.specs.Ends.{PutEnds}
 use Rattle.sp_cli.specs.After.{UsageAfter}
 
 -- words have one form

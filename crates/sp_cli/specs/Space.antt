@@ -1,5 +1,5 @@
 -- What a command does to its image file and to the sink.
-use Rattle.std.specs.Prelude.{◌≡◌, ◌⊎◌, ℕ, Bool, List, ◌++◌, Option, Some, IsTrue, map, string_bytes, String}
+use Rattle.std.specs.Prelude.{◌≡◌, ℕ, Bool, List, ◌++◌, Option, Some, IsTrue, map, string_bytes, String}
 use Rattle.std.specs.declared.alloc.Global.{Global}
 use Rattle.sp_base.specs.Image.{ImageMap}
 use Rattle.sp_base.specs.Files.{IsFrontOf}

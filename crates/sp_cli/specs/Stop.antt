@@ -1,6 +1,6 @@
 -- Why a command ends before anything is written.
-use Rattle.std.specs.Prelude.{◌≡◌, ◌⊎◌, ℕ, Bool, List, Option, None, IsTrue}
-use Rattle.sp_cli.specs.Command.{Command, Verify, Input, Refusal, Missing, TooLarge, NotBuilt, Open, Contents, IsTooLarge, HasInputs, Stands}
+use Rattle.std.specs.Prelude.{◌≡◌, ◌⊎◌, ℕ, Bool, List, None, IsTrue}
+use Rattle.sp_cli.specs.Command.{Verify, Input, Refusal, Missing, TooLarge, NotBuilt, Open, Contents, IsTooLarge, HasInputs, Stands}
 use Rattle.sp_base.specs.Image.{ImageMap}
 use Rattle.sp_first.specs.Right.{IsTheImage, IsAccepted, IsNotBuilt, IsOpen}
 

@@ -4,10 +4,8 @@
 mod command;
 mod print;
 mod refusal;
-
 mod run;
 mod status;
-
 
 pub use run::space;
 pub use status::Status;
