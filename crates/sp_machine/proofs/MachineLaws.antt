@@ -4,6 +4,8 @@ use Rattle.std.proofs.lemmas.List.Elements.{All-replicate}
 use Rattle.sp_base.specs.declared.location.Loc.{Loc}
 use Rattle.sp_base.specs.declared.location.Loc.TheVariants as loc
 use Rattle.sp_isa.specs.Core.{Core, at, limit, IsCore}
+use Rattle.sp_isa.specs.Step.{step}
+use Rattle.sp_isa.proofs.CoreLaws.{steps_keep_cores}
 use Rattle.sp_machine.specs.declared.machine.Machine.TheInside.{Inside}
 use Rattle.sp_machine.specs.Machine.{core_of, IsMachine}
 
@@ -45,3 +47,6 @@ at-zeros cells loc.Z = refl
 at-zeros cells loc.Ac = refl
 at-zeros cells loc.P = refl
 at-zeros cells loc.Cy = refl
+
+pub still_core : (input : ℕ) (old new : Core) → new ≡ step input old → input < 256 → IsCore old → IsCore new
+still_core input old new e low h = subst IsCore (sym e) (steps_keep_cores input old low h)

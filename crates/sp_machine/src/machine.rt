@@ -121,29 +121,37 @@ impl Machine {
     }
 
     /// The stack pointer.
+    #[tactic(auto, using(crate::proofs::MachineLaws::is_core))]
     pub fn sp(&self) -> u16
-        ensures { result ≡ self.now.sp }
+        ensures value { result ≡ self.now.sp }
+        ensures core { IsCore self.now }
     {
         self.sp
     }
 
     /// The program counter.
+    #[tactic(auto, using(crate::proofs::MachineLaws::is_core))]
     pub fn pc(&self) -> u16
-        ensures { result ≡ self.now.pc }
+        ensures value { result ≡ self.now.pc }
+        ensures core { IsCore self.now }
     {
         self.pc
     }
 
     /// The byte at an address.
+    #[tactic(auto, using(crate::proofs::MachineLaws::is_core))]
     pub fn cell(&self, a: u16) -> u8
-        ensures { result ≡ cell a self.now }
+        ensures value { result ≡ cell a self.now }
+        ensures core { IsCore self.now }
     {
         self.cells[a as usize]
     }
 
     /// Whether a HLT has run.
+    #[tactic(auto, using(crate::proofs::MachineLaws::is_core))]
     pub fn halted(&self) -> bool
-        ensures { result ≡ self.now.halted }
+        ensures value { result ≡ self.now.halted }
+        ensures core { IsCore self.now }
     {
         self.halted
     }

@@ -1,6 +1,7 @@
 ghost use Rattle.std.specs.Prelude.{◌≡◌};
+ghost use Rattle.sp_isa.specs.Core.{IsCore};
 ghost use Rattle.sp_isa.specs.Step.{step};
-ghost use Rattle.sp_machine.specs.Event.{event, event_of};
+ghost use Rattle.sp_machine.specs.Event.{event, event_of, fetched};
 
 use crate::{Event, Machine};
 use sp_base::Reg;
@@ -19,21 +20,31 @@ impl Machine {
         }
     }
 
+    /// The three bytes at the program counter.
+    fn fetch(&self) -> [u8; 3]
+        ensures { result ≡ fetched self.now }
+    {
+        let pc = self.pc();
+        [
+            self.cell(pc),
+            self.cell(pc.wrapping_add(1)),
+            self.cell(pc.wrapping_add(2)),
+        ]
+    }
+
     /// One step, `input` being the byte that an IN takes. A step allocates nothing, and copies no memory.
     #[tactic(auto, unfolding(sp_isa::specs::Step::step, crate::specs::Event::event))]
     pub fn step(&mut self, input: u8) -> Event
         ensures state { self.new ≡ step input self.old }
         ensures event { result ≡ event self.old }
+        ensures core { IsCore self.new }
     {
         if self.halted() {
             return Event::Halted;
         }
-        let pc = self.pc();
-        let first = self.cell(pc);
-        let second = self.cell(pc.wrapping_add(1));
-        let third = self.cell(pc.wrapping_add(2));
-        let Some((i, _)) = decode([first, second, third]) else {
-            return Event::Stuck(first);
+        let bytes = self.fetch();
+        let Some((i, _)) = decode(bytes) else {
+            return Event::Stuck(bytes[0]);
         };
         let event = self.event_of(i);
         self.execute(input, i);
