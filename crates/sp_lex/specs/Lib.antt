@@ -1,0 +1,7 @@
+pub mod Bytes
+pub mod Names
+pub mod Numbers
+pub mod Pieces
+pub mod Reading
+pub mod Refusal
+pub mod Texts

@@ -1,0 +1,23 @@
+//! Lines and tokens of a source in 8080 assembly, with its annotation lines (8080 Assembly Language Programming
+//! Manual, "Assembly language instruction format"; the annotations are this project's own).
+#![tactic(auto)]
+
+mod bytes;
+mod names;
+mod numbers;
+mod pieces;
+mod reading;
+mod refusal;
+mod rows;
+mod texts;
+mod token;
+
+pub use names::name;
+pub use numbers::number;
+pub use reading::lines;
+pub use refusal::{LexRefusal, TextKind};
+pub use texts::characters;
+pub use token::{LineKind, Lines, SourceLine, Token, TokenKind, Tokens};
+
+#[cfg(test)]
+mod tests;
