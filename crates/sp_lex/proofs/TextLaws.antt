@@ -57,7 +57,7 @@ pub text_rest-open : (bytes : List ℕ) (i : ℕ) → length bytes ≤ i → plu
 unfolding text_rest
 text_rest-open bytes i le = at_drop_all (λ rest. plus i (text_rest rest)) bytes i le
 
-u_other : (byte : ℕ) (rest : List ℕ) → byte ≢ 39 → unquoted (byte ∷ rest) ≡ byte ∷ unquoted rest
+pub u_other : (byte : ℕ) (rest : List ℕ) → byte ≢ 39 → unquoted (byte ∷ rest) ≡ byte ∷ unquoted rest
 unfolding unquoted
 u_other byte [] h = rw (ne_eqb byte 39 h) refl
 u_other byte (next ∷ rest) h = rw (ne_eqb byte 39 h) refl
@@ -67,7 +67,7 @@ unfolding unquoted
 u_closed byte [] one two = rw (eq-eqb byte 39 one) refl
 u_closed byte (next ∷ rest) one two = rw (eq-eqb byte 39 one, ne_eqb next 39 two) refl
 
-u_twice : (byte : ℕ) (rest : List ℕ) → byte ≡ 39 → get_or rest 0 0 ≡ 39 → unquoted (byte ∷ rest) ≡ 39 ∷ unquoted (drop 1 rest)
+pub u_twice : (byte : ℕ) (rest : List ℕ) → byte ≡ 39 → get_or rest 0 0 ≡ 39 → unquoted (byte ∷ rest) ≡ 39 ∷ unquoted (drop 1 rest)
 unfolding unquoted
 u_twice byte [] one two = absurd (omega arith)
 u_twice byte (next ∷ rest) one two = rw (eq-eqb byte 39 one, eq-eqb next 39 two) refl

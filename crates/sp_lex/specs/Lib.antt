@@ -4,4 +4,5 @@ pub mod Numbers
 pub mod Pieces
 pub mod Reading
 pub mod Refusal
+pub mod Standing
 pub mod Texts

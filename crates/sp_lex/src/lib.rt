@@ -3,6 +3,7 @@
 #![tactic(auto)]
 
 mod bytes;
+mod laws;
 mod names;
 mod numbers;
 mod pieces;
@@ -12,6 +13,10 @@ mod rows;
 mod texts;
 mod token;
 
+pub use laws::{
+    a_source_has_one_reading, lines_are_spelled_by_their_source, rows_are_the_source,
+    tokens_are_slices_of_their_source,
+};
 pub use names::name;
 pub use numbers::number;
 pub use reading::lines;
