@@ -1,5 +1,5 @@
 -- Reading an expression from left to right for its value.
-use Rattle.std.specs.Prelude.{ℕ, ◌+◌, ◌-◌, ◌%◌, Bool, true, false, ◌&&◌, nat_lt, if◌then◌else◌, List, [], ◌∷◌, ◌++◌, length, take, slice_index_or, Option, Some, None, unwrap_or, is_some}
+use Rattle.std.specs.Prelude.{ℕ, ◌+◌, ◌-◌, ◌%◌, Bool, true, false, ◌&&◌, nat_lt, if◌then◌else◌, List, [], ◌∷◌, ◌++◌, length, take, slice_index_or, Option, Some, unwrap_or}
 use Rattle.sp_expr.specs.declared.word.Operator.{Operator}
 use Rattle.sp_expr.specs.declared.word.Word.{Word}
 use Rattle.sp_expr.specs.declared.word.Word.TheVariants as words
@@ -56,14 +56,3 @@ fits opened (words.Here ∷ ws) = fits opened ws
 fits opened (words.Operator operator ∷ ws) = fits opened ws
 fits opened (words.Number n ∷ ws) = fits opened ws
 fits opened (words.Name name ∷ ws) = fits opened ws
-
--- the first name without a value
-unfoldable pub first_undefined : (List ℕ → Option ℕ) → List Word → Option (List ℕ)
-first_undefined names [] = None
-first_undefined names (words.Name name ∷ ws) = if is_some (names name) then first_undefined names ws else Some name
-first_undefined names (words.Open ∷ ws) = first_undefined names ws
-first_undefined names (words.Close ∷ ws) = first_undefined names ws
-first_undefined names (words.Not ∷ ws) = first_undefined names ws
-first_undefined names (words.Here ∷ ws) = first_undefined names ws
-first_undefined names (words.Operator operator ∷ ws) = first_undefined names ws
-first_undefined names (words.Number n ∷ ws) = first_undefined names ws

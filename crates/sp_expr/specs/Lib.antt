@@ -7,4 +7,5 @@ pub mod Reserved
 pub mod Sentence
 pub mod States
 pub mod Trees
+pub mod Undefined
 pub mod Words

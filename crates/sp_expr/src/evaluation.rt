@@ -2,7 +2,8 @@ ghost use Rattle.std.specs.Prelude.{◌≡◌, ◌<◌, ◌%◌, [], ◌∷◌, 
 ghost use Rattle.std.specs.Cmp.Lexicographic.{pointwise};
 ghost use Rattle.std.specs.Prelude.{nat_eq};
 ghost use Rattle.indexmap.specs.IndexMap.{get};
-ghost use Rattle.sp_expr.specs.Evaluation.{state, start, with_operand, with_operator, closed, step, run, finished, fits, first_undefined};
+ghost use Rattle.sp_expr.specs.Evaluation.{state, start, with_operand, with_operator, closed, step, run, finished, fits};
+ghost use Rattle.sp_expr.specs.Undefined.{first_undefined};
 ghost use Rattle.sp_expr.specs.Level.{empty};
 
 use crate::Symbols;
@@ -133,7 +134,7 @@ pub(crate) fn first_undefined(words: &[Word], names: &Symbols) -> Option<Name>
     None
 }
 
-#[tactic(auto, unfolding(crate::specs::Evaluation::first_undefined))]
+#[tactic(auto, unfolding(crate::specs::Undefined::first_undefined))]
 fn undefined_in(word: Word, names: &Symbols) -> Option<Name>
     ensures { result ≡ first_undefined (λ name. get (pointwise nat_eq) names.now name) (word ∷ []) }
 {

@@ -2,7 +2,7 @@ ghost use Rattle.std.specs.Prelude.{◌≡◌, nat_eq};
 ghost use Rattle.std.specs.Cmp.Lexicographic.{pointwise};
 ghost use Rattle.indexmap.specs.IndexMap.{get};
 ghost use Rattle.sp_expr.specs.Answers.{AnswersParse, outcome};
-ghost use Rattle.sp_expr.specs.Evaluation.{first_undefined};
+ghost use Rattle.sp_expr.specs.Undefined.{first_undefined};
 ghost use Rattle.sp_expr.specs.Trees.{Tree, Spells, value_of};
 ghost use Rattle.sp_expr.specs.Words.{words_of, AreIn};
 

@@ -5,6 +5,7 @@
 mod arithmetic;
 mod evaluation;
 mod expr;
+mod laws;
 mod level;
 mod nesting;
 mod refusal;
@@ -20,6 +21,10 @@ use sp_base::Name;
 pub type Symbols = IndexMap<Name, u16>;
 
 pub use expr::{Expr, parse, value};
+pub use laws::an_expression_has_one_value;
 pub use refusal::{ExprRefusal, ParseRefusal};
 pub use reserved::is_reserved;
 pub use word::{Operator, Word};
+
+#[cfg(test)]
+mod tests;

@@ -2,7 +2,7 @@ use Rattle.std.proofs.Common.{◌≡◌, drop}
 use Rattle.std.specs.Prelude.{nat_eq}
 use Rattle.std.specs.Cmp.Lexicographic.{pointwise}
 use Rattle.indexmap.specs.IndexMap.{get}
-use Rattle.sp_expr.specs.Evaluation.{first_undefined}
+use Rattle.sp_expr.specs.Undefined.{first_undefined}
 use Rattle.sp_expr.proofs.evaluation.first_undefined.Given as goal
 
 abbrev pub invariant-loop-word : goal.invariant-loop-word

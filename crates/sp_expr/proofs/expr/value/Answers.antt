@@ -3,7 +3,8 @@ use Rattle.std.specs.Prelude.{nat_eq}
 use Rattle.std.specs.Cmp.Lexicographic.{pointwise}
 use Rattle.indexmap.specs.IndexMap.{get}
 use Rattle.sp_expr.specs.Answers.{outcome}
-use Rattle.sp_expr.specs.Evaluation.{first_undefined, finished, run, start}
+use Rattle.sp_expr.specs.Evaluation.{finished, run, start}
+use Rattle.sp_expr.specs.Undefined.{first_undefined}
 use Rattle.sp_expr.specs.Trees.{value_of}
 use Rattle.sp_expr.proofs.ValueLaws.{value_is}
 use Rattle.sp_expr.proofs.expr.value.Goals as goal
