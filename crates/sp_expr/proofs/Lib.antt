@@ -1,0 +1,8 @@
+pub mod NestingLaws
+pub mod RunLaws
+pub mod ScanLaws
+pub mod SentenceLaws
+pub mod TokenLaws
+pub mod TreeLaws
+pub mod ValueLaws
+pub mod WordLaws

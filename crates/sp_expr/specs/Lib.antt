@@ -1,0 +1,11 @@
+pub mod Answers
+pub mod Arithmetic
+pub mod Evaluation
+pub mod Level
+pub mod Nesting
+pub mod Reserved
+pub mod Sentence
+pub mod States
+pub mod Trees
+pub mod Undefined
+pub mod Words

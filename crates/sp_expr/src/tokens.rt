@@ -1,0 +1,121 @@
+ghost use Rattle.std.specs.Prelude.{◌≡◌, IfOk};
+ghost use Rattle.sp_expr.specs.Words.{operator_named, name_word, symbol_word, character_word, word_of, words_of, AreIn};
+ghost use Rattle.sp_expr.specs.Answers.{AnswersWords};
+
+use crate::refusal::ParseRefusal;
+use crate::reserved::is_reserved;
+use crate::word::{Operator, Word};
+use sp_base::{Memory, Name};
+use sp_lex::{Token, TokenKind};
+use std::alloc::Global;
+
+#[tactic(auto, unfolding(crate::specs::Words::operator_named))]
+fn operator_named(name: &[u8]) -> Option<Word>
+    ensures { result ≡ operator_named name.now }
+{
+    if name == b"MOD".as_slice() {
+        Some(Word::Operator(Operator::Modulo))
+    } else if name == b"SHL".as_slice() {
+        Some(Word::Operator(Operator::ShiftLeft))
+    } else if name == b"SHR".as_slice() {
+        Some(Word::Operator(Operator::ShiftRight))
+    } else if name == b"NOT".as_slice() {
+        Some(Word::Not)
+    } else if name == b"AND".as_slice() {
+        Some(Word::Operator(Operator::And))
+    } else if name == b"OR".as_slice() {
+        Some(Word::Operator(Operator::Or))
+    } else if name == b"XOR".as_slice() {
+        Some(Word::Operator(Operator::Xor))
+    } else {
+        None
+    }
+}
+
+fn name_word(name: Name) -> Option<Word>
+    ensures { result ≡ name_word name }
+{
+    let text = name.as_slice();
+    if let Some(word) = operator_named(text) {
+        return Some(word);
+    }
+    if is_reserved(text) {
+        None
+    } else {
+        Some(Word::Name(name))
+    }
+}
+
+#[tactic(auto, unfolding(crate::specs::Words::symbol_word))]
+fn symbol_word(text: &[u8]) -> Option<Word>
+    ensures { result ≡ symbol_word text.now }
+{
+    if text == b"$".as_slice() {
+        Some(Word::Here)
+    } else if text == b"(".as_slice() {
+        Some(Word::Open)
+    } else if text == b")".as_slice() {
+        Some(Word::Close)
+    } else if text == b"+".as_slice() {
+        Some(Word::Operator(Operator::Plus))
+    } else if text == b"-".as_slice() {
+        Some(Word::Operator(Operator::Minus))
+    } else if text == b"*".as_slice() {
+        Some(Word::Operator(Operator::Times))
+    } else if text == b"/".as_slice() {
+        Some(Word::Operator(Operator::Divide))
+    } else {
+        None
+    }
+}
+
+fn character_word(characters: &[u8]) -> Option<Word>
+    ensures { result ≡ character_word characters.now }
+{
+    match characters {
+        [character] => Some(Word::Number(u16::from(*character))),
+        _ => None,
+    }
+}
+
+/// The word that a token of this text stands for.
+#[tactic(auto, unfolding(crate::specs::Words::word_of))]
+fn word_of(alloc: Global, kind: TokenKind, text: &[u8]) -> Result<Option<Word>, Memory>
+    ensures { IfOk result (λ word. word ≡ word_of kind text.now) }
+{
+    match kind {
+        TokenKind::Number => match sp_lex::number(text) {
+            Some(value) => Ok(Some(Word::Number((value % 65_536) as u16))),
+            None => Ok(None),
+        },
+        TokenKind::Text => {
+            let characters = sp_lex::characters(alloc, text)?;
+            Ok(character_word(characters.as_slice()))
+        }
+        TokenKind::Symbol => Ok(symbol_word(text)),
+        TokenKind::Name => match sp_lex::name(text) {
+            Some(name) => Ok(name_word(name)),
+            None => Ok(None),
+        },
+    }
+}
+
+/// The words that tokens of a source stand for.
+pub(crate) fn words_of(
+    alloc: Global,
+    source: &[u8],
+    tokens: &[Token],
+) -> Result<Vec<Word>, ParseRefusal>
+    requires { AreIn source.now tokens.now }
+    ensures { AnswersWords result (words_of source.now tokens.now) }
+{
+    let mut words = Vec::new(alloc);
+    for token in tokens {
+        let text = &source[token.start..token.end];
+        let Some(word) = word_of(alloc, token.kind, text)? else {
+            return Err(ParseRefusal::Syntax);
+        };
+        words.push(word)?;
+    }
+    Ok(words)
+}

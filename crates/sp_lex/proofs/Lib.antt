@@ -1,0 +1,6 @@
+pub mod CutLaws
+pub mod NumberLaws
+pub mod PieceLaws
+pub mod ReadingLaws
+pub mod StandingLaws
+pub mod TextLaws
