@@ -4,10 +4,11 @@
 mod command;
 mod print;
 mod refusal;
-
 mod run;
 mod status;
 
-
 pub use run::space;
 pub use status::Status;
+
+#[cfg(test)]
+mod tests;

@@ -206,4 +206,5 @@ pub fn space<F: Files, S: Sink>(
 }
 
 /// The line that says what the commands are.
-const USAGE: &str = "usage: space8080 verify SRC SCRIPTS IMG | asm SRC IMG | check SRC | conds SRC | run IMG | trial SRC NAME | gen N\n";
+const USAGE: &str =
+    "usage: space8080 verify SRC SCRIPTS IMG | asm SRC IMG | check SRC | conds SRC | run IMG | trial SRC NAME | gen N\n";

@@ -14,7 +14,7 @@ pub returns-in-Some-clause-headline : goal.returns-in-Some-clause-headline
 returns-in-Some-clause-headline g c = λ is told source scripts image form.
     let run = Verify c.in-Some.command.source.now c.in-Some.command.scripts.now c.in-Some.command.image.now in
     let held : HoldsImage (g.F.Files.contents c.args.files.now) (Verify c.in-Some.command.source.now c.in-Some.command.scripts.now c.in-Some.command.image.now) (g.F.Files.contents c.verify.new.files c.in-Some.command.image.now) =
-      subst (λ s. ImageAfter s (g.F.Files.contents c.args.files.now) (Verify c.in-Some.command.source.now c.in-Some.command.scripts.now c.in-Some.command.image.now) (g.F.Files.contents c.verify.new.files c.in-Some.command.image.now)) is (c.verify.ensures.image told) in
+    subst (λ s. ImageAfter s (g.F.Files.contents c.args.files.now) (Verify c.in-Some.command.source.now c.in-Some.command.scripts.now c.in-Some.command.image.now) (g.F.Files.contents c.verify.new.files c.in-Some.command.image.now)) is (c.verify.ensures.image told) in
     subst (λ d. HoldsImage (g.F.Files.contents c.args.files.now) d (g.F.Files.contents c.verify.new.files (image_name d))) (one_form (words_of c.args.words.now) (Verify c.in-Some.command.source.now c.in-Some.command.scripts.now c.in-Some.command.image.now) (Verify source scripts image) c.in-Some.ensures form) held
 
 pub returns-in-Some-clause-done : goal.returns-in-Some-clause-done
@@ -58,7 +58,7 @@ returns-in-None-clause-usage g c = λ is.
     (c.in-None.ensures, put_as_usage (g.S.Sink.tells c.args.out.now) _ _ _ _ c.finish.result ends is)
 
 pub returns-in-None-clause-sink : goal.returns-in-None-clause-sink
-returns-in-None-clause-sink g c = λ tells. 
+returns-in-None-clause-sink g c = λ tells.
     let line : c.as_bytes.result.now ≡ usage_text = search rules in
     let ends = subst (λ text. PutEnds status.Usage text (g.S.Sink.tells c.args.out.now) (g.S.Sink.taken c.args.out.now) (g.S.Sink.taken c.finish.new.out) (g.S.Sink.faults c.args.out.now) (g.S.Sink.faults c.finish.new.out) c.finish.result) line c.finish.ensures.ends in
     inr (c.in-None.ensures, usage_after (g.S.Sink.tells c.args.out.now) _ _ _ _ c.finish.result tells ends)

@@ -25,9 +25,10 @@ returns-in-Err-Refused-clause-sink g c = λ tells.
 pub returns-in-Ok-write-clause-done : goal.returns-in-Ok-write-clause-done
 returns-in-Ok-write-clause-done g c = λ is.
     let report = c.deref-in-Ok-write.ensures.value ∙ c.in-Ok-texts_of.ensures.report in
-    let ends = subst (λ line. PutEnds Done line (g.S.Sink.tells c.args.out.now) (g.S.Sink.taken c.args.out.now) (g.S.Sink.taken c.finish.new.out) (g.S.Sink.faults c.args.out.now) (g.S.Sink.faults c.finish.new.out) c.finish.result) report c.finish.ensures.ends in
-    (λ told. accepts_with _ c.args.source.now c.args.scripts.now c.args.image.now _ (c.in-Ok.ensures.ok told),
-    done (Verify c.args.source.now c.args.scripts.now c.args.image.now) (g.F.Files.tells c.args.files.now) (g.F.Files.contents c.args.files.now) _ _ _ _ _ c.finish.result ends is)
+    let ends = subst (λ line. PutEnds Done line (g.S.Sink.tells c.args.out.now) (g.S.Sink.taken c.args.out.now) (g.S.Sink.taken c.finish.new.out) (g.S.Sink.faults c.args.out.now) (g.S.Sink.faults c.finish.new.out) c.finish.result) report c.finish.ensures.ends in (
+      λ told. accepts_with _ c.args.source.now c.args.scripts.now c.args.image.now _ (c.in-Ok.ensures.ok told),
+      done (Verify c.args.source.now c.args.scripts.now c.args.image.now) (g.F.Files.tells c.args.files.now) (g.F.Files.contents c.args.files.now) _ _ _ _ _ c.finish.result ends is,
+    )
 
 pub returns-in-Ok-write-clause-image : goal.returns-in-Ok-write-clause-image
 returns-in-Ok-write-clause-image g c = λ told.
