@@ -75,5 +75,4 @@ pub fn verify(alloc: Global, source: &[u8], scripts: &[u8]) -> Result<Accepted, 
 /// Two forms of a source say the same, so that a source has one unit.
 pub fn a_source_has_one_reading()
     ensures { HasOneReading }
-{
-}
+{}
