@@ -9,3 +9,6 @@ mod status;
 
 pub use run::space;
 pub use status::Status;
+
+#[cfg(test)]
+mod tests;

@@ -1,0 +1,92 @@
+//! Command lines over files and a sink in memory. Expected texts are worked out by hand from the rules.
+mod faults;
+mod files;
+mod form;
+mod words;
+
+use crate::{Status, space};
+use sp_base::{MemFiles, MemSink};
+use std::alloc::Global;
+use std::process::Abort;
+use std::test::Fail;
+
+/// An accepted source, line by line.
+const FIVE: [&str; 7] = [
+    ";# stack 2300H, 23FFH\n",
+    ";# routine FIVE\n",
+    ";# post A = 5\n",
+    ";# changes A\n",
+    "FIVE: MVI A,5\n",
+    "      RET\n",
+    ";# end\n",
+];
+
+const FIVE_IMAGE: &str = ":030000003E05C9F1\n:00000001FF\n";
+
+const REPORT: &str = "accepted routines=1 conditions=1 simplified=1 scripted=0\n";
+
+const OPEN: &str = "refused Open FIVE.1\n";
+
+const NOT_BUILT: &str = "refused NotBuilt\n";
+
+/// The accepted source with this text in place of the lines from `first` to `last`, which count from 1.
+fn source_with(alloc: Global, first: usize, last: usize, text: &str) -> Result<String, Fail> {
+    let mut source = String::new(alloc);
+    for (n, line) in FIVE.iter().enumerate() {
+        if n + 1 == first {
+            source.push_str(text)?;
+        }
+        if n + 1 < first || n + 1 > last {
+            source.push_str(line)?;
+        }
+    }
+    Ok(source)
+}
+
+/// The accepted source.
+fn five(alloc: Global) -> Result<String, Fail> {
+    source_with(alloc, 0, 0, "")
+}
+
+fn words_of(alloc: Global, words: &[&str]) -> Result<Vec<String>, Fail> {
+    let mut list = Vec::new(alloc);
+    for word in words {
+        list.push(String::from_str(alloc, word)?)?;
+    }
+    Ok(list)
+}
+
+/// A source, scripts, an image from before, and a file that no command names.
+fn files_of(alloc: Global, source: &str, scripts: &str) -> Result<MemFiles, Fail> {
+    let mut files = MemFiles::new(alloc);
+    files.add("SRC", source.as_bytes())?;
+    files.add("SCRIPTS", scripts.as_bytes())?;
+    files.add("IMG", b"old")?;
+    files.add("OTHER", b"kept")?;
+    Ok(files)
+}
+
+fn verify(alloc: Global, files: &mut MemFiles, out: &mut MemSink) -> Result<Status, Fail> {
+    let words = words_of(alloc, &["verify", "SRC", "SCRIPTS", "IMG"])?;
+    Ok(space(alloc, &words, files, out))
+}
+
+/// Verifies a source without scripts, and compares what IMG holds afterwards and what was put.
+fn check_source(
+    rt: &impl Abort,
+    alloc: Global,
+    source: &str,
+    status: Status,
+    image: &str,
+    text: &str,
+) -> Result<(), Fail> {
+    let mut files = files_of(alloc, source, "")?;
+    let mut out = MemSink::new(alloc);
+    assert_eq!(rt; verify(alloc, &mut files, &mut out)?, status, "{source}");
+    assert_eq!(rt; out.taken(), text.as_bytes(), "{source}");
+    assert_eq!(rt; files.contents("IMG"), Some(image.as_bytes()), "{source}");
+    assert_eq!(rt; files.contents("SRC"), Some(source.as_bytes()));
+    assert_eq!(rt; files.contents("SCRIPTS"), Some(b"".as_slice()));
+    assert_eq!(rt; files.contents("OTHER"), Some(b"kept".as_slice()));
+    Ok(())
+}

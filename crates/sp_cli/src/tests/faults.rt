@@ -1,0 +1,206 @@
+//! Faults of the files and of the sink, at each call and with each number of bytes kept.
+use super::{FIVE_IMAGE, OPEN, REPORT, files_of, five, source_with, verify, words_of};
+use crate::{Status, space};
+use sp_base::MemSink;
+use std::alloc::Global;
+use std::process::Abort;
+use std::test::Fail;
+
+/// The bytes that a faulty call keeps of a text.
+fn front(text: &str, kept: usize) -> &[u8] {
+    let bytes = text.as_bytes();
+    &bytes[..kept.min(bytes.len())]
+}
+
+/// What a call of the files, or of the sink, that fails leaves.
+#[derive(Clone, Copy)]
+struct Fault<'a> {
+    source: &'a str,
+    /// The calls that fail, with the bytes that each keeps.
+    calls: &'a [(u64, usize)],
+    puts: &'a [(u64, usize)],
+}
+
+/// Verifies a source with faults, and compares what is left.
+fn check_fault(
+    rt: &impl Abort,
+    alloc: Global,
+    fault: &Fault<'_>,
+    status: Status,
+    image: &[u8],
+    taken: &[u8],
+) -> Result<(), Fail> {
+    let mut files = files_of(alloc, fault.source, "")?;
+    for (call, kept) in fault.calls {
+        files.fail(*call, *kept)?;
+    }
+    let mut out = MemSink::new(alloc);
+    for (put, kept) in fault.puts {
+        out.fail(*put, *kept)?;
+    }
+    assert_eq!(rt; verify(alloc, &mut files, &mut out)?, status);
+    assert_eq!(rt; files.contents("IMG"), Some(image));
+    assert_eq!(rt; out.taken(), taken);
+    assert_eq!(rt; files.contents("SRC"), Some(fault.source.as_bytes()));
+    assert_eq!(rt; files.contents("SCRIPTS"), Some(b"".as_slice()));
+    assert_eq!(rt; files.contents("OTHER"), Some(b"kept".as_slice()));
+    Ok(())
+}
+
+#[test]
+fn a_failing_read_leaves_all_as_it_was(rt: HostRuntime) -> Result<(), Fail> {
+    let alloc = rt.alloc();
+    let five = five(alloc)?;
+    let six = source_with(alloc, 3, 3, ";# post A = 6\n")?;
+    for source in [five.as_str(), six.as_str(), "NOP\n", ""] {
+        for calls in [
+            [(1, 0), (9, 0)],
+            [(2, 0), (9, 0)],
+            [(1, 9), (2, 9)],
+            [(2, 3), (3, 3)],
+        ] {
+            let fault = Fault {
+                source,
+                calls: &calls,
+                puts: &[(1, 3)],
+            };
+            check_fault(&rt, alloc, &fault, Status::ReadFault, b"old", b"")?;
+        }
+    }
+    Ok(())
+}
+
+#[test]
+fn a_failing_write_leaves_a_front_of_the_image(rt: HostRuntime) -> Result<(), Fail> {
+    let alloc = rt.alloc();
+    let source = five(alloc)?;
+    for kept in 0..32usize {
+        let fault = Fault {
+            source: &source,
+            calls: &[(3, kept)],
+            puts: &[(1, 3)],
+        };
+        let image = front(FIVE_IMAGE, kept);
+        check_fault(&rt, alloc, &fault, Status::WriteFault, image, b"")?;
+    }
+    Ok(())
+}
+
+#[test]
+fn a_failing_put_leaves_a_front_of_the_text(rt: HostRuntime) -> Result<(), Fail> {
+    let alloc = rt.alloc();
+    let five = five(alloc)?;
+    let six = source_with(alloc, 3, 3, ";# post A = 6\n")?;
+    for kept in 0..60usize {
+        let puts = [(1, kept)];
+        let accepted = Fault {
+            source: &five,
+            calls: &[],
+            puts: &puts,
+        };
+        let taken = front(REPORT, kept);
+        let image = FIVE_IMAGE.as_bytes();
+        check_fault(&rt, alloc, &accepted, Status::SinkFault, image, taken)?;
+        let open = Fault {
+            source: &six,
+            calls: &[(3, 0)],
+            puts: &puts,
+        };
+        let taken = front(OPEN, kept);
+        check_fault(&rt, alloc, &open, Status::SinkFault, b"old", taken)?;
+    }
+    Ok(())
+}
+
+#[test]
+fn calls_that_are_not_made_do_not_fail(rt: HostRuntime) -> Result<(), Fail> {
+    let alloc = rt.alloc();
+    let five = five(alloc)?;
+    let fault = Fault {
+        source: &five,
+        calls: &[(4, 0), (0, 0)],
+        puts: &[(2, 0), (0, 0)],
+    };
+    let (image, report) = (FIVE_IMAGE.as_bytes(), REPORT.as_bytes());
+    check_fault(&rt, alloc, &fault, Status::Done, image, report)?;
+    let six = source_with(alloc, 3, 3, ";# post A = 6\n")?;
+    let fault = Fault {
+        source: &six,
+        calls: &[(3, 0)],
+        puts: &[(2, 0)],
+    };
+    check_fault(&rt, alloc, &fault, Status::Refused, b"old", OPEN.as_bytes())
+}
+
+#[test]
+fn a_fault_comes_before_what_the_file_would_say(rt: HostRuntime) -> Result<(), Fail> {
+    let alloc = rt.alloc();
+    let names = [
+        (["NONE", "SCRIPTS"], 1, Status::ReadFault),
+        (["NONE", "SCRIPTS"], 2, Status::Refused),
+        (["SRC", "NONE"], 1, Status::ReadFault),
+        (["SRC", "NONE"], 2, Status::ReadFault),
+        (["SRC", "NONE"], 3, Status::Refused),
+    ];
+    for ([source, scripts], call, status) in names {
+        let words = words_of(alloc, &["verify", source, scripts, "IMG"])?;
+        let mut files = files_of(alloc, &five(alloc)?, "")?;
+        files.fail(call, 0)?;
+        let mut out = MemSink::new(alloc);
+        assert_eq!(rt;
+            space(alloc, &words, &mut files, &mut out),
+            status,
+            "{call}"
+        );
+        assert_eq!(rt;
+            out.taken().is_empty(),
+            status == Status::ReadFault,
+            "{call}"
+        );
+        assert_eq!(rt; files.contents("IMG"), Some(b"old".as_slice()), "{call}");
+    }
+    Ok(())
+}
+
+#[test]
+fn calls_are_counted_from_one_command_to_the_next(rt: HostRuntime) -> Result<(), Fail> {
+    let alloc = rt.alloc();
+    let mut files = files_of(alloc, &five(alloc)?, "")?;
+    let mut out = MemSink::new(alloc);
+    files.fail(4, 0)?;
+    files.fail(7, 10)?;
+    out.fail(2, 4)?;
+    let statuses = [
+        Status::Done,
+        Status::ReadFault,
+        Status::WriteFault,
+        Status::SinkFault,
+        Status::Done,
+    ];
+    let images = [FIVE_IMAGE, FIVE_IMAGE, ":030000003", FIVE_IMAGE, FIVE_IMAGE];
+    for (status, image) in statuses.into_iter().zip(images) {
+        assert_eq!(rt; verify(alloc, &mut files, &mut out)?, status);
+        assert_eq!(rt; files.contents("IMG"), Some(image.as_bytes()));
+    }
+    let taken = format!(in alloc; "{REPORT}acce{REPORT}")?;
+    assert_eq!(rt; out.taken(), taken.as_bytes());
+    Ok(())
+}
+
+#[test]
+fn a_failing_put_leaves_a_front_of_the_usage_line(rt: HostRuntime) -> Result<(), Fail> {
+    let alloc = rt.alloc();
+    let words = words_of(alloc, &["verify"])?;
+    for (kept, taken) in [(0, ""), (1, "u"), (7, "usage: "), (16, "usage: space8080")] {
+        let mut files = files_of(alloc, &five(alloc)?, "")?;
+        let mut out = MemSink::new(alloc);
+        out.fail(1, kept)?;
+        assert_eq!(rt;
+            space(alloc, &words, &mut files, &mut out),
+            Status::SinkFault
+        );
+        assert_eq!(rt; out.taken(), taken.as_bytes());
+        assert_eq!(rt; files.contents("IMG"), Some(b"old".as_slice()));
+    }
+    Ok(())
+}
