@@ -15,7 +15,7 @@ use Rattle.sp_hex.proofs.FindLaws.{Cells, here, other, some_is_not_none, order_p
 
 -- ---- Small things
 
-some_is : {x y : ℕ} → Some x ≡ Some y → x ≡ y
+pub some_is : {x y : ℕ} → Some x ≡ Some y → x ≡ y
 some_is e = cc
 
 add_nothing : (a : ℕ) → a ≡ a + 0

@@ -1,4 +1,5 @@
 pub mod Hex
+pub mod Load
 pub mod Reading
 pub mod Refusals
 pub mod Rows

@@ -1,11 +1,13 @@
-//! What holds of texts and images alone, as contracts of functions that do nothing.
+//! What holds of texts, images and loaded images alone, as contracts of functions that do nothing.
 
 ghost use Rattle.std.specs.Prelude.{◌≡◌, ◌⊎◌, ℕ, ◌+◌, ◌-◌, ◌≤◌, List, length, take};
 ghost use Rattle.std.specs.FinMap as maps;
 ghost use Rattle.sp_base.specs.Image.{ImageMap, IsInMemory};
 ghost use Rattle.sp_hex.specs.declared.refusal.HexRefusal.{HexRefusal};
 ghost use Rattle.sp_hex.specs.Hex.{Data, StandsFor, AreWritten, records_of, text};
+ghost use Rattle.sp_hex.specs.Load.{IsLoaded};
 ghost use Rattle.sp_hex.specs.Refusals.{IsCause};
+ghost use Rattle.sp_isa.specs.Core.{Core};
 
 /// A text stands for one image, or one refusal has its cause in it, and never both.
 pub fn one_answer()
@@ -28,4 +30,9 @@ pub fn written_text()
     // 65,536 records of one byte and the end record are the most.
     ensures short { (image : ImageMap) → IsInMemory image → length (text image) ≤ 917516 }
     ensures cut { (image other : ImageMap) (n : ℕ) → IsInMemory image → n + 2 ≤ length (text image) → ¬ (StandsFor (take n (text image)) other) }
+{}
+
+/// Loading an image into a machine with these parts leaves one set of parts alone.
+pub fn one_loading()
+    ensures { (image : ImageMap) (old one other : Core) → length old.cells ≡ 65536 → IsLoaded image old one → IsLoaded image old other → one ≡ other }
 {}

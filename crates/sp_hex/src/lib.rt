@@ -1,14 +1,17 @@
-//! Intel HEX, both ways: an image as a text of records, and the image that such a text stands for.
+//! Intel HEX, both ways: an image as a text of records, and the image that such a text stands for; and an image
+//! loaded into a machine.
 #![tactic(auto)]
 
 mod laws;
 mod lines;
+mod loading;
 mod reading;
 mod record;
 mod refusal;
 mod writing;
 
-pub use laws::{one_answer, written_form, written_text};
+pub use laws::{one_answer, one_loading, written_form, written_text};
+pub use loading::load;
 pub use reading::read;
 pub use refusal::HexRefusal;
 pub use writing::write;

@@ -1,7 +1,8 @@
 ghost use Rattle.std.specs.Prelude.{◌<◌, length};
 
-use crate::{HexRefusal, read, write};
-use sp_base::{Image, Line};
+use crate::{HexRefusal, load, read, write};
+use sp_base::{Image, Line, Loc, Memory, Reg};
+use sp_machine::Machine;
 use std::alloc::Global;
 use std::process::Abort;
 use std::test::Fail;
@@ -183,4 +184,162 @@ fn a_cut_text_is_refused(rt: HostRuntime) {
         let image = read(rt.alloc(), &text[..kept]);
         assert_eq!(rt; image.is_ok(), kept == 29);
     }
+}
+
+/// An image of runs of bytes, each with its first address. Address 0 comes after FFFFH.
+fn image_of(alloc: Global, runs: &[(u16, &[u8])]) -> Result<Image, Memory> {
+    let mut image = Image::new(alloc);
+    for (address, bytes) in runs {
+        let mut a = *address;
+        for byte in *bytes {
+            image.set(a, *byte)?;
+            a = a.wrapping_add(1);
+        }
+    }
+    Ok(image)
+}
+
+/// A machine with E5H in each cell, and other values than those of a new machine in its other parts.
+fn used_machine(alloc: Global) -> Result<Machine, Memory> {
+    let mut machine = Machine::new(alloc)?;
+    // HLT
+    machine.set_cell(0, 0x76);
+    let _ = machine.step(0);
+    for a in 0..65536u32 {
+        machine.set_cell(a as u16, 0xE5);
+    }
+    for (r, value) in [
+        (Reg::B, 1),
+        (Reg::C, 2),
+        (Reg::D, 3),
+        (Reg::E, 4),
+        (Reg::H, 5),
+        (Reg::L, 6),
+        (Reg::A, 7),
+    ] {
+        machine.set_reg(r, value);
+    }
+    for f in [Loc::S, Loc::Z, Loc::Ac, Loc::P, Loc::Cy] {
+        machine.set_flag(f, 1);
+    }
+    machine.set_sp(0x2400);
+    machine.set_pc(0x1234);
+    Ok(machine)
+}
+
+/// Whether the machine has what `used_machine` puts into its parts other than memory.
+fn is_used(machine: &Machine) -> bool {
+    let registers = [
+        machine.reg(Reg::B),
+        machine.reg(Reg::C),
+        machine.reg(Reg::D),
+        machine.reg(Reg::E),
+        machine.reg(Reg::H),
+        machine.reg(Reg::L),
+        machine.reg(Reg::A),
+    ];
+    let flags = [
+        machine.flag(Loc::S),
+        machine.flag(Loc::Z),
+        machine.flag(Loc::Ac),
+        machine.flag(Loc::P),
+        machine.flag(Loc::Cy),
+    ];
+    registers == [1, 2, 3, 4, 5, 6, 7]
+        && flags == [1; 5]
+        && machine.sp() == 0x2400
+        && machine.pc() == 0x1234
+        && machine.halted()
+}
+
+/// How many cells of memory have other bytes than E5H.
+fn changed_cells(machine: &Machine) -> u32 {
+    let mut count = 0u32;
+    for a in 0..65536u32 {
+        if machine.cell(a as u16) != 0xE5 {
+            count = count.wrapping_add(1);
+        }
+    }
+    count
+}
+
+/// Images as runs, and the bytes that stand at addresses once the image is loaded. No byte of an image is E5H.
+const LOADED: [(&[(u16, &[u8])], u32, &[(u16, u8)]); 6] = [
+    (&[], 0, &[(0, 0xE5), (0xFFFF, 0xE5)]),
+    (&[(0, &[0])], 1, &[(0, 0), (1, 0xE5), (0xFFFF, 0xE5)]),
+    (&[(0xFFFF, &[0xC9])], 1, &[(0xFFFF, 0xC9), (0, 0xE5)]),
+    (
+        &[(0x00FE, &[1, 2, 3, 4])],
+        4,
+        &[
+            (0xFD, 0xE5),
+            (0xFE, 1),
+            (0xFF, 2),
+            (0x100, 3),
+            (0x101, 4),
+            (0x102, 0xE5),
+        ],
+    ),
+    (
+        &[(0xFFFE, &[1, 2, 3])],
+        3,
+        &[(0xFFFD, 0xE5), (0xFFFE, 1), (0xFFFF, 2), (0, 3), (1, 0xE5)],
+    ),
+    (
+        &[(0x8000, &[5, 6]), (0, &[7]), (0x8004, &[8])],
+        4,
+        &[
+            (0, 7),
+            (0x8000, 5),
+            (0x8001, 6),
+            (0x8002, 0xE5),
+            (0x8003, 0xE5),
+            (0x8004, 8),
+        ],
+    ),
+];
+
+#[test]
+fn an_image_is_loaded(rt: HostRuntime) -> Result<(), Fail> {
+    let alloc = rt.alloc();
+    for (runs, changed, cells) in LOADED {
+        let image = image_of(alloc, runs)?;
+        let mut machine = used_machine(alloc)?;
+        // The second time changes nothing.
+        for _ in 0..2 {
+            load(&image, &mut machine);
+            assert_eq!(rt; changed_cells(&machine), changed);
+            for (a, byte) in cells {
+                assert_eq!(rt; machine.cell(*a), *byte, "{a}");
+            }
+            assert!(rt; is_used(&machine));
+        }
+    }
+    Ok(())
+}
+
+#[test]
+fn an_image_is_loaded_over_another(rt: HostRuntime) -> Result<(), Fail> {
+    let alloc = rt.alloc();
+    let mut machine = used_machine(alloc)?;
+    load(&image_of(alloc, &[(0xFE, &[1, 2, 3, 4])])?, &mut machine);
+    load(
+        &image_of(alloc, &[(0x100, &[5]), (0x102, &[6])])?,
+        &mut machine,
+    );
+    let cells = [
+        (0xFD, 0xE5),
+        (0xFE, 1),
+        (0xFF, 2),
+        (0x100, 5),
+        (0x101, 4),
+        (0x102, 6),
+        (0x103, 0xE5),
+    ];
+    for (a, byte) in cells {
+        assert_eq!(rt; machine.cell(a), byte, "{a}");
+    }
+    assert_eq!(rt; changed_cells(&machine), 5);
+    assert!(rt; is_used(&machine));
+    Ok(())
 }
