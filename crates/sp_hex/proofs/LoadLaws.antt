@@ -1,5 +1,5 @@
 -- The bytes of an image that are put into memory by rising address.
-use Rattle.std.proofs.Common.{◌≡◌, ◌≢◌, ℕ, ◌+◌, ◌%◌, ◌<◌, ◌≤◌, length, set, get_or, refl, sym, ap, ◌∙◌, inl, inr, Option, List, Some, None, arith}
+use Rattle.std.proofs.Common.{◌≡◌, ◌≢◌, ℕ, ◌+◌, ◌%◌, ◌<◌, length, set, get_or, refl, sym, ap, ◌∙◌, inl, inr, Option, List, Some, None, arith}
 use Rattle.std.proofs.Math.ListN.{length-set}
 use Rattle.std.proofs.lemmas.Bool.{cases_lt, cases_eq}
 use Rattle.std.proofs.lemmas.List.{get_or-set_other, ext_get_or}

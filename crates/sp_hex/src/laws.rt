@@ -32,7 +32,8 @@ pub fn written_text()
     ensures cut { (image other : ImageMap) (n : ℕ) → IsInMemory image → n + 2 ≤ length (text image) → ¬ (StandsFor (take n (text image)) other) }
 {}
 
-/// Loading an image into a machine with these parts leaves one set of parts alone.
+/// The image, and what the machine was before, say all of what it is once the image is loaded. Each machine has
+/// 65,536 cells.
 pub fn one_loading()
     ensures { (image : ImageMap) (old one other : Core) → length old.cells ≡ 65536 → IsLoaded image old one → IsLoaded image old other → one ≡ other }
 {}

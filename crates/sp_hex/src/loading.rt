@@ -8,7 +8,7 @@ use sp_machine::Machine;
 pub fn load(image: &Image, m: &mut Machine)
     ensures { IsLoaded image.now m.old m.new }
 {
-    // A machine has a cell for each address, as what this call ensures says.
+    // This call ensures that the machine has a cell for each address.
     let _b = m.reg(Reg::B);
     let mut from = 0u32;
     while let Some((address, byte)) = image.next(from) {
