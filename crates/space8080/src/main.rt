@@ -22,3 +22,6 @@ fn main(rt: HostRuntime) -> ExitCode {
     let status = space(rt.alloc(), &words, &mut files, &mut out);
     ExitCode::from(status.exit_number())
 }
+
+#[cfg(test)]
+mod tests;

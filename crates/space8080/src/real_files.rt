@@ -2,10 +2,9 @@ ghost use Rattle.std.specs.Prelude.{◌≡◌, ◌≢◌, ◌+◌, ◌-◌, ◌^
 
 use sp_base::{Files, ReadRefusal, WriteRefusal};
 use std::alloc::Global;
-use std::fs;
-use std::io;
 use std::io::{Read, Write};
 use std::rt::Files as SystemFiles;
+use std::{fs, io};
 
 /// The files of the system. Contracts are told nothing of what they hold.
 #[derive(Drop)]
