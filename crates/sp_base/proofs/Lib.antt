@@ -1,2 +1,5 @@
+pub mod CellLaws
+pub mod FindLaws
 pub mod ImageLaws
 pub mod LocsLaws
+pub mod PlaceLaws

@@ -1,3 +1,4 @@
+pub mod Cells
 pub mod Files
 pub mod Image
 pub mod Location

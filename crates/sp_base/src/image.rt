@@ -1,5 +1,6 @@
-ghost use Rattle.std.specs.Prelude.{◌≡◌, ◌<◌, ◌≤◌, ℕ, OnOk, OnErr, IfSome, IfNone, Some, None};
+ghost use Rattle.std.specs.Prelude.{◌≡◌, ◌<◌, ◌≤◌, ◌+◌, ℕ, length, OnOk, OnErr, IfOk, IfSome, IfNone, Some, None};
 ghost use Rattle.std.specs.FinMap as maps;
+ghost use Rattle.sp_base.specs.Cells.{IsPlaced, Keeps, placed};
 ghost use Rattle.sp_base.specs.Image.{ImageMap, IsInMemory, NextByte, NoByteFrom};
 
 use crate::Memory;
@@ -44,6 +45,25 @@ impl Image {
     {
         self.bytes.insert(a, byte)?;
         Ok(())
+    }
+
+    /// Puts bytes at successive addresses from this one on, and says whether none of them had a byte. Where one had, or
+    /// memory ran out, only those before it were put.
+    pub fn place(&mut self, a: u16, bytes: &[u8]) -> Result<bool, Memory>
+        requires { a + length bytes.now ≤ 65536 }
+        ensures placed { IfOk result (λ new. IsPlaced new self.new (placed a bytes.now self.old)) }
+        ensures keeps { Keeps self.old self.new }
+    {
+        let mut at = u32::from(a);
+        for byte in bytes {
+            let here = at as u16;
+            if self.get(here).is_some() {
+                return Ok(false);
+            }
+            self.set(here, *byte)?;
+            at += 1;
+        }
+        Ok(true)
     }
 
     /// The byte at an address, if there is one.

@@ -1,10 +1,7 @@
-pub mod CellLaws
 pub mod DigitLaws
-pub mod FindLaws
 pub mod LineLaws
 pub mod LoadLaws
 pub mod LoopLaws
-pub mod PlaceLaws
 pub mod RecordLaws
 pub mod RowLaws
 pub mod TextLaws

@@ -8,7 +8,7 @@ use Rattle.std.specs.FinMap as maps
 use Rattle.sp_base.specs.Image.{ImageMap, NextByte, NoByteFrom}
 use Rattle.sp_isa.specs.Core.{Core, cell, with_cell}
 use Rattle.sp_hex.specs.Load.{IsLoaded}
-use Rattle.sp_hex.proofs.FindLaws.{some_is_not_none}
+use Rattle.sp_base.proofs.FindLaws.{some_is_not_none}
 use Rattle.sp_hex.proofs.RowLaws.{some_is}
 
 -- the image's bytes below an address are loaded, and no others

@@ -3,10 +3,10 @@ use Rattle.std.proofs.Common.{◌≡◌, ℕ, ◌+◌, true, false, cond, eqb, L
 use Rattle.std.proofs.lemmas.List.{nil_from_length}
 use Rattle.std.specs.Str.Lines.{lines}
 use Rattle.sp_base.specs.Image.{ImageMap}
+use Rattle.sp_base.specs.Cells.{Data, placed}
 use Rattle.sp_hex.specs.declared.refusal.HexRefusal.{HexRefusal}
 use Rattle.sp_hex.specs.declared.refusal.HexRefusal.TheVariants as refusals
-use Rattle.sp_hex.specs.Hex.{Data}
-use Rattle.sp_hex.specs.Reading.{Content, data_record, end_record, ◌>>=◌, Fails, record_at, placed, empty_from, or_overlap, after_record, reading}
+use Rattle.sp_hex.specs.Reading.{Content, data_record, end_record, ◌>>=◌, Fails, record_at, empty_from, or_overlap, after_record, reading}
 
 -- ---- Empty lines
 

@@ -6,9 +6,10 @@ use Rattle.std.proofs.Math.Seq.{take-append_seam}
 use Rattle.std.proofs.lemmas.List.{length_push, nil_from_length}
 use Rattle.std.proofs.lemmas.Bool.{cases_Bool, le-leb, leb-true, eq-eqb, eqb-true, eqb-false, and_parts, cond-true, cond-false}
 use Rattle.sp_base.specs.declared.line.Line.{Line}
+use Rattle.sp_base.specs.Cells.{Data}
 use Rattle.sp_hex.specs.declared.refusal.HexRefusal.{HexRefusal}
 use Rattle.sp_hex.specs.declared.refusal.HexRefusal.TheVariants as refusals
-use Rattle.sp_hex.specs.Hex.{Data, fields, data_type, end_type, digit_value, byte_of, bytes_of, line_bytes, HasForm, HasSum, IsDataLine, IsEndLine}
+use Rattle.sp_hex.specs.Hex.{fields, data_type, end_type, digit_value, byte_of, bytes_of, line_bytes, HasForm, HasSum, IsDataLine, IsEndLine}
 use Rattle.sp_hex.specs.Reading.{Content, data_record, end_record, ◌>>=◌, content_with, content_of, with_sum, or_bad_record, record_at}
 
 -- ---- Small things

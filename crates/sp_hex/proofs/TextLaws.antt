@@ -12,12 +12,13 @@ use Rattle.sp_base.specs.Image.{ImageMap}
 use Rattle.sp_base.specs.declared.line.Line.{Line}
 use Rattle.sp_hex.specs.declared.refusal.HexRefusal.{HexRefusal}
 use Rattle.sp_hex.specs.declared.refusal.HexRefusal.TheVariants as refusals
-use Rattle.sp_hex.specs.Hex.{Data, cells_at, cells_of, IsDataLine, IsEndLine, NoneTwice, StandsFor}
+use Rattle.sp_hex.specs.Hex.{IsDataLine, IsEndLine, NoneTwice, StandsFor}
 use Rattle.sp_hex.specs.Refusals.{Reaches, NoEndIn, IsCause}
-use Rattle.sp_hex.specs.Reading.{Content, data_record, end_record, ◌>>=◌, Fails, Gives, or_overlap, after_record, record_at, placed, empty_from, reading}
-use Rattle.sp_hex.proofs.CellLaws.{Apart, map_of, some_map, apart_front, placed_apart, placed_some, cells_more}
+use Rattle.sp_hex.specs.Reading.{Content, data_record, end_record, ◌>>=◌, Fails, Gives, or_overlap, after_record, record_at, empty_from, reading}
+use Rattle.sp_base.proofs.CellLaws.{Apart, map_of, some_map, apart_front, placed_apart, placed_some, cells_more}
 use Rattle.sp_hex.proofs.RecordLaws.{Tells, record_tells, data_again, end_again, bad_record_again, bad_sum_again}
-use Rattle.sp_hex.proofs.FindLaws.{Cells}
+use Rattle.sp_base.proofs.FindLaws.{Cells}
+use Rattle.sp_base.specs.Cells.{Data, cells_at, cells_of, placed}
 
 abbrev Texts : Type 0
 Texts = List (List ℕ)

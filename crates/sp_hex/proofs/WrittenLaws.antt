@@ -14,11 +14,12 @@ use Rattle.std.proofs.lemmas.List.{take-append-le, length-take-le, length_push, 
 use Rattle.std.proofs.lemmas.List.Sums.{sum_by-append}
 use Rattle.std.proofs.lemmas.List.Elements.{All-from_recursion, All-head, All-tail}
 use Rattle.sp_base.specs.Image.{ImageMap, IsInMemory, AreCells}
-use Rattle.sp_hex.specs.Hex.{Data, cells_at, cells_of, fields, data_type, end_type, digit_value, byte_of, bytes_of, line_bytes, IsDataLine, IsEndLine, StandsFor, digit, two_digits, checksum_of, written_record, records_of, text}
+use Rattle.sp_hex.specs.Hex.{fields, data_type, end_type, digit_value, byte_of, bytes_of, line_bytes, IsDataLine, IsEndLine, StandsFor, digit, two_digits, checksum_of, written_record, records_of, text}
 use Rattle.sp_hex.proofs.LineLaws.{is_feed, lines_cons, lines_one}
 use Rattle.sp_hex.proofs.RecordLaws.{AreBytes, then_some, map_some, chosen, some_is, not_none}
 use Rattle.sp_hex.proofs.RowLaws.{data_text, written_made}
-use Rattle.sp_hex.proofs.FindLaws.{order_parts, less}
+use Rattle.sp_base.proofs.FindLaws.{order_parts, less}
+use Rattle.sp_base.specs.Cells.{Data, cells_at, cells_of}
 
 -- ---- Digits
 

@@ -4,22 +4,9 @@ use Rattle.std.specs.List.{flat_map, AllZip, IsDistinct, AllByRecursion}
 use Rattle.std.specs.Str.Lines.{lines}
 use Rattle.std.specs.FinMap as maps
 use Rattle.sp_base.specs.Image.{ImageMap}
+use Rattle.sp_base.specs.Cells.{Data, cells_of}
 
--- ---- Records
-
--- what a data record gives: bytes at successive addresses, from this one on
-pub record Data : Type 0 where
-  pub address : ℕ
-  pub bytes : List ℕ
-
--- bytes, each with its address, from an address on
-abbrev pub cells_at : ℕ → List ℕ → List (ℕ × ℕ)
-cells_at a [] = []
-cells_at a (byte ∷ bytes) = (a, byte) ∷ cells_at (a + 1) bytes
-
--- the bytes of data records, each with its address
-abbrev pub cells_of : List Data → List (ℕ × ℕ)
-cells_of = flat_map (λ d. cells_at d.address d.bytes)
+-- ---- Records: the data of a record are bytes at successive addresses
 
 -- the bytes of a record before its checksum: how many bytes of data it has, its address with the high byte first, its type, and its data
 abbrev pub fields : ℕ → ℕ → List ℕ → List ℕ

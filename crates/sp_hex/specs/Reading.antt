@@ -1,12 +1,12 @@
 -- Reading a text line by line, with the first refusal that is met. No public contract cites this.
-use Rattle.std.specs.Prelude.{◌≡◌, ℕ, ◌+◌, ◌*◌, ◌%◌, Bool, true, false, nat_le, ◌==◌, ◌&&◌, if◌then◌else◌, List, [], ◌∷◌, length, take, sum, Option, Some, None, option_map, Result, Ok, Err}
-use Rattle.std.specs.FinMap as maps
+use Rattle.std.specs.Prelude.{◌≡◌, ℕ, ◌+◌, ◌*◌, ◌%◌, nat_le, ◌==◌, ◌&&◌, if◌then◌else◌, List, [], ◌∷◌, length, take, sum, Option, Some, None, option_map, Result, Ok, Err}
 use Rattle.sp_base.specs.Image.{ImageMap}
+use Rattle.sp_base.specs.Cells.{Data, placed}
 use Rattle.sp_hex.specs.declared.refusal.HexRefusal.{HexRefusal}
 use Rattle.sp_hex.specs.declared.refusal.HexRefusal.TheVariants as refusals
 use Rattle.sp_hex.specs.declared.record.Record.{Record}
 use Rattle.sp_hex.specs.declared.record.Record.TheVariants as records
-use Rattle.sp_hex.specs.Hex.{Data, byte_of, line_bytes, data_type, end_type}
+use Rattle.sp_hex.specs.Hex.{byte_of, line_bytes, data_type, end_type}
 
 -- what a line holds
 pub data Content : Type 0 where
@@ -66,16 +66,6 @@ record_at number line = do
   bytes ← or_bad_record number (line_bytes line)
   held ← or_bad_record number (content_of bytes)
   with_sum number bytes held
-
--- the image with these bytes from an address on, if it has none of them yet
-unfoldable pub placed : ℕ → List ℕ → ImageMap → Option ImageMap
-placed a [] image = Some image
-placed a (byte ∷ bytes) image = if maps.contains_key image a then None else placed (a + 1) bytes (maps.insert image a byte)
-
--- what placing bytes answered, and the image that it left
-abbrev pub IsPlaced : Bool → ImageMap → Option ImageMap → Type 0
-IsPlaced true image read = read ≡ Some image
-IsPlaced false image read = read ≡ None
 
 -- the lines from this number on are empty
 unfoldable pub empty_from : ℕ → List (List ℕ) → Result (Unit {0}) HexRefusal

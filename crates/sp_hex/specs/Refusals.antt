@@ -2,9 +2,10 @@
 use Rattle.std.specs.Prelude.{◌≡◌, ◌≢◌, ℕ, ◌+◌, List, [], ◌∷◌, ◌++◌, length, All}
 use Rattle.std.specs.List.{AllZip}
 use Rattle.std.specs.Str.Lines.{lines}
+use Rattle.sp_base.specs.Cells.{Data}
 use Rattle.sp_hex.specs.declared.refusal.HexRefusal.{HexRefusal}
 use Rattle.sp_hex.specs.declared.refusal.HexRefusal.TheVariants as refusals
-use Rattle.sp_hex.specs.Hex.{Data, HasForm, HasSum, IsDataLine, IsEndLine, NoneTwice}
+use Rattle.sp_hex.specs.Hex.{HasForm, HasSum, IsDataLine, IsEndLine, NoneTwice}
 
 -- the text has the line at this number, counted from 1; the lines before it are data records, and give no address twice
 pub record Reaches (text : List ℕ) (number : ℕ) (line : List ℕ) (records : List Data) : Type 0 where

@@ -2,7 +2,7 @@
 use Rattle.std.specs.Prelude.{◌≡◌, ◌⊎◌, ℕ, ◌+◌, ◌<◌, ◌≤◌, nat_le, List, ◌++◌, length, filter, None}
 use Rattle.std.specs.FinMap as maps
 use Rattle.sp_base.specs.Image.{ImageMap}
-use Rattle.sp_hex.specs.Hex.{cells_at}
+use Rattle.sp_base.specs.Cells.{cells_at}
 
 -- the cells of an image from an address on, by rising address
 abbrev pub rising : ImageMap → ℕ → List (ℕ × ℕ)

@@ -3,8 +3,9 @@
 ghost use Rattle.std.specs.Prelude.{◌≡◌, ◌⊎◌, ℕ, ◌+◌, ◌-◌, ◌≤◌, List, length, take};
 ghost use Rattle.std.specs.FinMap as maps;
 ghost use Rattle.sp_base.specs.Image.{ImageMap, IsInMemory};
+ghost use Rattle.sp_base.specs.Cells.{Data};
 ghost use Rattle.sp_hex.specs.declared.refusal.HexRefusal.{HexRefusal};
-ghost use Rattle.sp_hex.specs.Hex.{Data, StandsFor, AreWritten, records_of, text};
+ghost use Rattle.sp_hex.specs.Hex.{StandsFor, AreWritten, records_of, text};
 ghost use Rattle.sp_hex.specs.Load.{IsLoaded};
 ghost use Rattle.sp_hex.specs.Refusals.{IsCause};
 ghost use Rattle.sp_isa.specs.Core.{Core};

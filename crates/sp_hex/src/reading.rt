@@ -2,10 +2,11 @@ ghost use Rattle.std.specs.Prelude.{◌≡◌, ◌⊎◌, ◌+◌, ◌<◌, ◌�
 ghost use Rattle.std.specs.FinMap as maps;
 ghost use Rattle.std.specs.Str.Lines.{lines};
 ghost use Rattle.sp_base.specs.Image.{ImageMap};
+ghost use Rattle.sp_base.specs.Cells.{IsPlaced, placed};
 ghost use Rattle.sp_hex.specs.declared.refusal.HexRefusal.{HexRefusal};
 ghost use Rattle.sp_hex.specs.Hex.{digit_value, byte_of, bytes_of, StandsFor};
 ghost use Rattle.sp_hex.specs.Refusals.{IsCause};
-ghost use Rattle.sp_hex.specs.Reading.{byte_at, Gives, content, content_of, record_at, placed, IsPlaced, empty_from, reading};
+ghost use Rattle.sp_hex.specs.Reading.{byte_at, Gives, content, content_of, record_at, empty_from, reading};
 
 use crate::lines::first_line;
 use crate::record::{DATA, END, Record, low_sum};
@@ -105,23 +106,6 @@ fn record_at(alloc: Global, line: &[u8], number: u32) -> Result<Record, HexRefus
     Ok(record)
 }
 
-/// Puts bytes into the image from an address on, and says whether none of them was there.
-fn place(image: &mut Image, address: u16, bytes: &[u8]) -> Result<bool, Memory>
-    requires { address + length bytes.now ≤ 65536 }
-    ensures { IfOk result (λ new. IsPlaced new image.new (placed address bytes.now image.old)) }
-{
-    let mut a = u32::from(address);
-    for byte in bytes {
-        let here = a as u16;
-        if image.get(here).is_some() {
-            return Ok(false);
-        }
-        image.set(here, *byte)?;
-        a += 1;
-    }
-    Ok(true)
-}
-
 /// Refuses the first line that isn't empty, of the lines from this number on.
 fn only_empty(text: &[u8], number: u32) -> Result<(), HexRefusal>
     requires { number + length text.now < 2 ^ 32 }
@@ -152,7 +136,7 @@ fn read_lines(alloc: Global, text: &[u8]) -> Result<Image, HexRefusal>
         let cut = first_line(rest);
         match record_at(alloc, cut.line, number)? {
             Record::Data { address, bytes } => {
-                if !place(&mut image, address, &bytes)? {
+                if !image.place(address, &bytes)? {
                     return Err(HexRefusal::Overlap(Line(number)));
                 }
             }

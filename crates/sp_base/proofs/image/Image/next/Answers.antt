@@ -1,4 +1,4 @@
-use Rattle.std.proofs.Common.{◌≡◌, ◌≤◌, ap, subst, sym, ◌∙◌, arith}
+use Rattle.std.proofs.Common.{◌≡◌, subst, arith}
 use Rattle.std.specs.FinMap as maps
 use Rattle.sp_base.specs.Image.{NextByte, NoByteFrom}
 use Rattle.sp_base.proofs.ImageLaws.{next_of_range, none_past_memory, none_of_range}

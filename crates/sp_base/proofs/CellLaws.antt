@@ -10,9 +10,9 @@ use Rattle.std.proofs.lemmas.Bool.{cases_Bool, eqb-false, ne_eqb}
 use Rattle.std.proofs.lemmas.List.{append-nil}
 use Rattle.std.proofs.lemmas.List.Concat.{flat_map-append}
 use Rattle.sp_base.specs.Image.{ImageMap}
-use Rattle.sp_hex.specs.Hex.{Data, cells_at, cells_of}
-use Rattle.sp_hex.specs.Reading.{placed}
-use Rattle.sp_hex.proofs.FindLaws.{Cells, here, other, some_is_not_none}
+use Rattle.sp_base.specs.Cells.{Data, cells_at, cells_of}
+use Rattle.sp_base.specs.Cells.{placed}
+use Rattle.sp_base.proofs.FindLaws.{Cells, here, other, some_is_not_none}
 
 abbrev addresses : Cells → List ℕ
 addresses = map (λ c. c.0)
