@@ -1,3 +1,8 @@
+//! The machine against the 8080 manual: its worked examples, and tables of flags and of addresses at their ends.
+mod edges;
+mod status_word;
+mod wrapping;
+
 use crate::{Event, Machine};
 use sp_base::{Loc, Memory, Reg};
 use std::alloc::Global;
@@ -45,6 +50,15 @@ fn flags(machine: &Machine) -> [u8; 5] {
         machine.flag(Loc::P),
         machine.flag(Loc::Cy),
     ]
+}
+
+/// Gives S, Z, AC, P and CY these values, 0 or 1.
+fn set_flags(machine: &mut Machine, [s, z, ac, p, cy]: [u8; 5]) {
+    machine.set_flag(Loc::S, s % 2);
+    machine.set_flag(Loc::Z, z % 2);
+    machine.set_flag(Loc::Ac, ac % 2);
+    machine.set_flag(Loc::P, p % 2);
+    machine.set_flag(Loc::Cy, cy % 2);
 }
 
 /// An operation's byte, then A, B, AC and CY before it, and A and the flags S, Z, AC, P and CY after it.
