@@ -90,11 +90,14 @@ abbrev pub then_statements : ℕ → Result Statement ParseRefusal → Result (L
 then_statements number (Err refusal) below = Err (record { kind = refusal; line = number })
 then_statements number (Ok first) below = with_first first below
 
--- lines without a statement are passed over
+abbrev pub is_statement : LineKind → Bool
+is_statement line.Statement = true
+is_statement line.Empty = false
+is_statement line.Annotation = false
+
+-- annotations and empty lines are passed over
 abbrev pub from_line : LineKind → ℕ → Result Statement ParseRefusal → Result (List Statement) Fault → Result (List Statement) Fault
-from_line line.Statement number read below = then_statements number read below
-from_line line.Empty number read below = below
-from_line line.Annotation number read below = below
+from_line kind number read below = if is_statement kind then then_statements number read below else below
 
 -- the statements of lines, the first of which has this number
 unfoldable pub statements_from : List ℕ → ℕ → List SourceLine → Result (List Statement) Fault

@@ -1,5 +1,5 @@
 -- What holds of every statement.
-use Rattle.std.specs.Prelude.{ℕ, ◌≡◌, List, [], All, IsTrue, ⊤}
+use Rattle.std.specs.Prelude.{◌≡◌, List, All, IsTrue, ⊤}
 use Rattle.sp_expr.specs.declared.word.Word.{Word}
 use Rattle.sp_expr.specs.Trees.{Tree, Spells}
 use Rattle.sp_isa.specs.Code.{valid}

@@ -275,7 +275,6 @@ pub const MNEMONICS: [(&[u8], Mnemonic); 85] = [
 ];
 
 /// The mnemonic or directive of a name in upper case.
-#[tactic(auto, unfolding(crate::specs::Mnemonics::mnemonic_named))]
 pub(crate) fn mnemonic_named(name: &[u8]) -> Option<Mnemonic>
     ensures { result ≡ mnemonic_named name.now }
 {

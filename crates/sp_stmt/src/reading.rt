@@ -1,8 +1,8 @@
-ghost use Rattle.std.specs.Prelude.{◌≡◌, ◌≤◌, ◌<◌, ◌+◌, length, IfOk, All};
+ghost use Rattle.std.specs.Prelude.{◌≡◌, ◌≤◌, ◌<◌, ◌+◌, length, count_by, IfOk, All};
 ghost use Rattle.sp_expr.specs.Words.{AreIn};
 ghost use Rattle.sp_lex.specs.Reading.{AreLines};
 ghost use Rattle.sp_stmt.specs.Answers.{Answers, AnswersStatements};
-ghost use Rattle.sp_stmt.specs.Reading.{statement, refuses_label, coded, labelled, assigning, assigned, statement_of, statements_of};
+ghost use Rattle.sp_stmt.specs.Reading.{statement, refuses_label, coded, labelled, assigning, assigned, statement_of, is_statement, statements_of};
 ghost use Rattle.sp_stmt.specs.Statements.{IsStatement};
 
 use crate::body::{Body, body_of, with_expression};
@@ -143,11 +143,20 @@ fn statement_of(
     }
 }
 
-fn is_statement(line: &SourceLine) -> bool {
+fn is_statement(line: &SourceLine) -> bool
+    ensures { result ≡ is_statement line.now.kind }
+{
     match line.kind {
         LineKind::Statement => true,
         LineKind::Empty | LineKind::Annotation => false,
     }
+}
+
+/// How many statements lines have.
+fn statement_count(lines: &[SourceLine]) -> usize
+    ensures { result ≡ count_by (λ line. is_statement line.kind) lines.now }
+{
+    lines.iter().filter(|line| is_statement(line)).count()
 }
 
 /// The statements of a source's lines, or the refusal of the lowest line that isn't a statement. Annotations and empty
@@ -162,8 +171,9 @@ pub fn statements(
     ensures right { AnswersStatements result (statements_of source.now lines.now) }
     ensures each { IfOk result (λ found. All IsStatement found) }
 {
-    let mut statements = Vec::new(alloc);
-    for (i, line) in lines.as_slice().iter().enumerate() {
+    let lines = lines.as_slice();
+    let mut statements = Vec::with_capacity(alloc, statement_count(lines))?;
+    for (i, line) in lines.iter().enumerate() {
         if !is_statement(line) {
             continue;
         }

@@ -1,6 +1,5 @@
 ghost use Rattle.std.specs.Prelude.{◌≡◌, nat_eq};
-ghost use Rattle.std.specs.List.{find};
-ghost use Rattle.std.specs.Option.{option_map};
+ghost use Rattle.std.specs.Map.{lookup};
 ghost use Rattle.std.specs.Cmp.Lexicographic.{pointwise};
 ghost use Rattle.sp_stmt.specs.Registers.{arg_named, pair_named, stack_pair_named};
 
@@ -37,11 +36,11 @@ pub const STACK_PAIRS: [(&[u8], StackPair); 4] = [
 
 /// What stands beside a name in a table.
 pub(crate) fn among<T: Copy>(table: &[(&[u8], T)], name: &[u8]) -> Option<T>
-    ensures { result ≡ option_map (λ entry. entry.1) (find (λ entry. pointwise nat_eq entry.0.now name.now) table.now) }
+    ensures { result ≡ lookup (λ word. pointwise nat_eq word.now name.now) table.now }
 {
-    for entry in table {
-        if entry.0 == name {
-            return Some(entry.1);
+    for (word, found) in table {
+        if *word == name {
+            return Some(*found);
         }
     }
     None
