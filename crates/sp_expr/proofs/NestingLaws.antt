@@ -178,6 +178,12 @@ deep ws t h e =
           let both : true ≡ false = sym yes.1 ∙ no in cc)
     ]
 
+pub nests_shallow : (ws : List Word) (t : Tree) → Spells ws t → depth_of t ≤ 64 → nests_within (nests (nest 0 0) []) ws ≡ true
+unfolding nests_within
+nests_shallow ws t h le =
+    let kept = keeps t h.grammar 0 0 [] [] (inr refl) (omega arith) (omega arith) in
+    ap (Within 0 0 []) (h.whole ∙ sym (append-nil (spelling t))) ∙ kept.1
+
 fits_tree : (t : Tree) (opened : ℕ) (rest : List Word) → opened + depth_of t ≤ 64 → fits opened (spelling t ++ rest) ≡ fits opened rest
 unfolding spelling fits
 fits_tree (Number v) opened rest le = refl

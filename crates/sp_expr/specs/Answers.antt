@@ -1,11 +1,13 @@
 -- What the calls on expressions answer.
-use Rattle.std.specs.Prelude.{◌≡◌, ℕ, ◌<◌, ◌≤◌, List, Option, Some, None, Result, Ok, Err, Vec, ⊤}
+use Rattle.std.specs.Prelude.{◌≡◌, ◌↔◌, ℕ, ◌<◌, ◌≤◌, true, List, [], Option, Some, None, Result, Ok, Err, Vec, ⊤}
 use Rattle.std.specs.declared.alloc.Global.{Global}
 use Rattle.sp_expr.specs.declared.refusal.ParseRefusal.{ParseRefusal}
 use Rattle.sp_expr.specs.declared.refusal.ParseRefusal.TheVariants.{Syntax, TooDeep, Memory}
 use Rattle.sp_expr.specs.declared.refusal.ExprRefusal.{ExprRefusal}
 use Rattle.sp_expr.specs.declared.refusal.ExprRefusal.TheVariants.{Undefined, ZeroDivisor}
 use Rattle.sp_expr.specs.declared.word.Word.{Word}
+use Rattle.sp_expr.specs.Nesting.{nest, nests, nests_within}
+use Rattle.sp_expr.specs.Sentence.{is_sentence}
 use Rattle.sp_expr.specs.Trees.{Tree, Spells, depth_of}
 
 -- the words of tokens
@@ -35,3 +37,11 @@ abbrev pub outcome : Option (List ℕ) → Option ℕ → Result ℕ ExprRefusal
 outcome (Some name) value = Err (Undefined name)
 outcome None (Some value) = Ok value
 outcome None None = Err ZeroDivisor
+
+-- a list of words is a sentence exactly where a tree is written so
+abbrev pub SentencesAreExpressions : Type 0
+SentencesAreExpressions = (ws : List Word) → (is_sentence ws ≡ true) ↔ ((t : Tree) × Spells ws t)
+
+-- the words of a tree keep to 64 nested constructs exactly where the tree nests at most 64
+abbrev pub SentencesNestAsTheirTrees : Type 0
+SentencesNestAsTheirTrees = (ws : List Word) (t : Tree) → Spells ws t → (nests_within (nests (nest 0 0) []) ws ≡ true) ↔ (depth_of t ≤ 64)

@@ -36,6 +36,15 @@ impl Model for Expr {
     ghost invariant = { λ e. fits 0 e.words.items ≡ true };
 }
 
+impl Expr {
+    /// The words of the expression, in order.
+    pub fn as_slice(&self) -> &[Word]
+        ensures { result.now ≡ self.now }
+    {
+        self.words.as_slice()
+    }
+}
+
 /// The expression that tokens of a source stand for. From the tightest: numbers, names, `$`, texts of one character and
 /// parentheses; `* / MOD SHL SHR`; `+ -`, and one of these as a sign before the first product of a sum; NOT; AND; OR and
 /// XOR. Operators of one rank go from the left. At most 64 parentheses and NOTs may be nested.

@@ -21,7 +21,9 @@ use sp_base::Name;
 pub type Symbols = IndexMap<Name, u16>;
 
 pub use expr::{Expr, parse, value};
-pub use laws::an_expression_has_one_value;
+pub use laws::{
+    an_expression_has_one_value, sentences_are_expressions, sentences_nest_as_their_trees,
+};
 pub use refusal::{ExprRefusal, ParseRefusal};
 pub use reserved::is_reserved;
 pub use word::{Operator, Word};

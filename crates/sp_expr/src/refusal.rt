@@ -2,7 +2,7 @@ ghost use Rattle.std.specs.Prelude.{◌≡◌};
 ghost use Rattle.sp_expr.specs.declared.refusal.ParseRefusal.TheVariants as parse;
 
 use sp_base::{Memory, Name};
-use std::alloc::AllocFailed;
+use std::alloc::{AllocError, AllocFailed};
 use thiserror::Error;
 
 /// Why tokens are no expression.
@@ -22,6 +22,14 @@ impl From<Memory> for ParseRefusal {
     ghost from_gives = { λ _ e. e ≡ parse.Memory };
 
     fn from(_: Memory) -> ParseRefusal {
+        ParseRefusal::Memory
+    }
+}
+
+impl From<AllocError> for ParseRefusal {
+    ghost from_gives = { λ _ e. e ≡ parse.Memory };
+
+    fn from(_: AllocError) -> ParseRefusal {
         ParseRefusal::Memory
     }
 }

@@ -109,7 +109,7 @@ pub(crate) fn words_of(
     requires { AreIn source.now tokens.now }
     ensures { AnswersWords result (words_of source.now tokens.now) }
 {
-    let mut words = Vec::new(alloc);
+    let mut words = Vec::with_capacity(alloc, tokens.len())?;
     for token in tokens {
         let text = &source[token.start..token.end];
         let Some(word) = word_of(alloc, token.kind, text)? else {

@@ -1,0 +1,4 @@
+pub mod AnswerLaws
+pub mod ItemLaws
+pub mod LineLaws
+pub mod StatementLaws

@@ -1,0 +1,10 @@
+pub mod Answers
+pub mod Bodies
+pub mod Data
+pub mod Expressions
+pub mod Held
+pub mod Mnemonics
+pub mod Reading
+pub mod Registers
+pub mod Statements
+pub mod Tokens

@@ -1,0 +1,28 @@
+//! Statements of the assembler (8080 Assembly Language Programming Manual, "Assembly language instruction format" and the
+//! descriptions of instructions and directives; names of at most 31 characters, labels alone on a line and no label before
+//! ORG and END are this project's own).
+#![tactic(auto)]
+
+mod body;
+mod data;
+mod expression;
+mod mnemonic;
+mod operand;
+mod plain;
+mod reading;
+mod refusal;
+mod register;
+mod statement;
+mod tokens;
+
+pub use mnemonic::{
+    Assignment, DataKind, ExpressionKind, Load, MNEMONICS, Mnemonic, PairForm, RegisterForm,
+    StackForm,
+};
+pub use operand::{Characters, Operand, Operands};
+pub use reading::statements;
+pub use refusal::StatementRefusal;
+pub use statement::{Code, Statement, Statements};
+
+#[cfg(test)]
+mod tests;
