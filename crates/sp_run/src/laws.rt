@@ -1,0 +1,7 @@
+//! What holds of runs alone, as the contract of a function that does nothing.
+ghost use Rattle.sp_run.specs.Run.{OneRunText};
+
+/// An image has one text of a run under any options.
+pub fn a_run_has_one_text()
+    ensures { OneRunText }
+{}
