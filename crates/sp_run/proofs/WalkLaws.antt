@@ -22,6 +22,7 @@ use Rattle.sp_run.specs.Settings.{setting_of, setting_with, target_of, named}
 use Rattle.sp_run.specs.Options.{is_same, texts_of}
 use Rattle.sp_run.specs.Form.{fits}
 use Rattle.sp_run.specs.Matches.{id_of}
+use Rattle.sp_run.proofs.PrefixLaws.{after_prefix_is}
 use Rattle.sp_run.proofs.RowLaws.{all_of-more, all_of-other, without-none}
 
 -- ---- The command
@@ -204,16 +205,6 @@ alone_is word name is = go (bytes_eq word (codes "--pc")) refl (bytes_eq word (c
         let same : Some Set ≡ Some name = rw (e, f, g) at is in
         (bytes_eq-Decides word (codes "--set")).0 g ∙ ap (λ o. codes "--" ++ id_of (unwrap_or o Pc)) same
     go false e false f false g = let none : None ≡ Some name = rw (e, f, g) at is in cc
-
--- what follows a prefix joins it to the text
-pub after_prefix_is : (prefix text value : List ℕ) → after_prefix prefix text ≡ Some value → text ≡ prefix ++ value
-after_prefix_is [] text value is = ap (λ o. unwrap_or o text) is
-after_prefix_is (c ∷ prefix) [] value is = let none : None ≡ Some value = is in cc
-after_prefix_is (c ∷ prefix) (x ∷ text) value is = go (nat_eq x c) refl (after_prefix_is prefix text value)
-  where
-    go : (b : Bool) → nat_eq x c ≡ b → (after_prefix prefix text ≡ Some value → text ≡ prefix ++ value) → x ∷ text ≡ c ∷ (prefix ++ value)
-    go true same rest = ap₂ (λ (y : ℕ) (more : List ℕ). y ∷ more) (eqb-true x c same) (rest (rw same at is))
-    go false apart rest = let none : None ≡ Some value = rw apart at is in cc
 
 -- the walk over a word that names an option with its value
 rows_joined : (word : List ℕ) (first : OptionName × List ℕ) (h : Held) → joined word ≡ Some first

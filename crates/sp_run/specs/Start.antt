@@ -1,5 +1,6 @@
 -- Where a run starts (this project's own).
-use Rattle.std.specs.Prelude.{◌≡◌, ℕ, Bool, true, false, List, [], ◌∷◌, Option, Some, None}
+use Rattle.std.specs.Prelude.{◌≡◌, ℕ, Bool, true, false, List, [], fold, Option, Some, None}
+use Rattle.std.specs.List.{filter_map}
 use Rattle.sp_base.specs.declared.location.Loc.{Loc}
 use Rattle.sp_base.specs.declared.location.Loc.TheVariants as loc
 use Rattle.sp_base.specs.Image.{ImageMap}
@@ -35,14 +36,16 @@ with_setting (setting.Cell a byte) core = with_cell a byte core
 
 -- the core with settings made in their order
 abbrev pub with_settings : List Setting → Core → Core
-with_settings [] core = core
-with_settings (first ∷ settings) core = with_settings settings (with_setting first core)
+with_settings settings core = fold (λ core setting. with_setting setting core) core settings
+
+-- the input that a setting gives
+abbrev pub input_of : Setting → Option ℕ
+input_of (setting.Input byte) = Some byte
+input_of _ = None
 
 -- the inputs that settings give, in their order
 abbrev pub inputs_of : List Setting → List ℕ
-inputs_of [] = []
-inputs_of (setting.Input byte ∷ settings) = byte ∷ inputs_of settings
-inputs_of (_ ∷ settings) = inputs_of settings
+inputs_of settings = filter_map input_of settings
 
 -- the core with another program counter, if one is given
 abbrev pub with_counter : Option ℕ → Core → Core

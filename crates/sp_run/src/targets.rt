@@ -1,4 +1,4 @@
-ghost use Rattle.std.specs.Prelude.{◌≡◌};
+ghost use Rattle.std.specs.Prelude.{◌≡◌, find};
 ghost use Rattle.std.specs.Option.{option_map};
 ghost use Rattle.sp_run.specs.Settings.{is_named, named, target_of, setting_with, setting_of};
 
@@ -47,16 +47,22 @@ fn is_named(name: &[u8], text: &[u8]) -> bool
     name.eq_ignore_ascii_case(text)
 }
 
+fn find_named(targets: &[(&[u8], Target)], text: &[u8]) -> Option<Target>
+    ensures { result ≡ option_map (λ entry. entry.1) (find (λ entry. is_named entry.0.now text.now) targets.now) }
+{
+    let found = targets.iter().find(|(name, _)| is_named(name, text));
+    match found {
+        Some((_, target)) => Some(*target),
+        None => None,
+    }
+}
+
 /// The target of a name.
+#[tactic(auto, unfolding(crate::specs::Settings::named))]
 fn named(text: &[u8]) -> Option<Target>
     ensures { result ≡ named text.now }
 {
-    for (name, target) in TARGETS {
-        if is_named(name, text) {
-            return Some(target);
-        }
-    }
-    None
+    find_named(&TARGETS, text)
 }
 
 /// What a setting names before its `=`: a register, a pair, SP, a flag, IN, or a cell by its address.

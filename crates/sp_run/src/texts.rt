@@ -67,14 +67,16 @@ fn push_flags(text: &mut Vec<u8>, machine: &Machine) -> Result<(), Memory>
     push_flag(text, b" Z=", machine.flag(Loc::Z))?;
     push_flag(text, b" AC=", machine.flag(Loc::Ac))?;
     push_flag(text, b" P=", machine.flag(Loc::P))?;
-    push_flag(text, b" CY=", machine.flag(Loc::Cy))
+    push_flag(text, b" CY=", machine.flag(Loc::Cy))?;
+    Ok(())
 }
 
 fn push_pointers(text: &mut Vec<u8>, machine: &Machine) -> Result<(), Memory>
     ensures { OnOk result (text.new.items ≡ text.old.items ++ pointers_text machine.now) }
 {
     push_word(text, b" SP=", machine.sp())?;
-    push_word(text, b" PC=", machine.pc())
+    push_word(text, b" PC=", machine.pc())?;
+    Ok(())
 }
 
 /// Adds how many steps were taken.
