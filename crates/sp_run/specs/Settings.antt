@@ -25,9 +25,13 @@ names =
 abbrev pub is_named : List ℕ → List ℕ → Bool
 is_named name text = bytes_eq (map to_ascii_lowercase name) (map to_ascii_lowercase text)
 
--- what a name names
+-- what a text names in a table
+abbrev pub target_in : List (List ℕ × Target) → List ℕ → Option Target
+target_in table text = option_map (λ entry. entry.1) (find (λ entry. is_named entry.0 text) table)
+
+-- what a text names
 unfoldable pub named : List ℕ → Option Target
-named text = option_map (λ entry. entry.1) (find (λ entry. is_named entry.0 text) names)
+named text = target_in names text
 
 -- the first of two, or the second where there is none
 abbrev pub first_or : Option Target → Option Target → Option Target

@@ -1,4 +1,4 @@
-ghost use Rattle.std.specs.Prelude.{◌≡◌, IfOk, IsSome, Some, map, codes};
+ghost use Rattle.std.specs.Prelude.{◌≡◌, IfOk, IsSome, Some};
 ghost use Rattle.std.specs.List.{filter_map};
 ghost use Rattle.sp_run.specs.Words.{words_of};
 ghost use Rattle.sp_run.specs.Options.{options_of};
@@ -39,15 +39,10 @@ fn parse<'a>(alloc: Global, words: &'a [String]) -> Result<ArgMatches<'a>, Memor
 
 /// The settings that texts stand for.
 fn settings_of(alloc: Global, texts: &[&str]) -> Result<Settings, Memory>
-    ensures { IfOk result (λ settings. settings ≡ filter_map setting_of (map (λ text. text.now) texts.now)) }
+    ensures { IfOk result (λ settings. settings ≡ filter_map (λ text. setting_of text.now) texts.now) }
 {
-    let mut settings = Vec::new(alloc);
-    for text in texts {
-        if let Some(setting) = setting_of(text.as_bytes()) {
-            settings.push(setting)?;
-        }
-    }
-    Ok(Settings::from_vec(settings))
+    let settings = texts.iter().filter_map(|text| setting_of(text.as_bytes()));
+    Ok(Settings::from_vec(settings.collect(alloc)?))
 }
 
 /// The options of option words that are in their form.

@@ -1,6 +1,5 @@
-ghost use Rattle.std.specs.Prelude.{◌≡◌, find};
-ghost use Rattle.std.specs.Option.{option_map};
-ghost use Rattle.sp_run.specs.Settings.{is_named, named, target_of, setting_with, setting_of};
+ghost use Rattle.std.specs.Prelude.{◌≡◌, ◌==◌, find, map, option_map, position};
+ghost use Rattle.sp_run.specs.Settings.{is_named, target_in, named, target_of, setting_with, setting_of};
 
 use crate::settings::{Flag, Setting};
 use crate::values::{bit_value, byte_value, word_value};
@@ -47,7 +46,7 @@ fn is_named(name: &[u8], text: &[u8]) -> bool
     name.eq_ignore_ascii_case(text)
 }
 
-fn find_named(targets: &[(&[u8], Target)], text: &[u8]) -> Option<Target>
+fn find_entry(targets: &[(&[u8], Target)], text: &[u8]) -> Option<Target>
     ensures { result ≡ option_map (λ entry. entry.1) (find (λ entry. is_named entry.0.now text.now) targets.now) }
 {
     let found = targets.iter().find(|(name, _)| is_named(name, text));
@@ -55,6 +54,13 @@ fn find_named(targets: &[(&[u8], Target)], text: &[u8]) -> Option<Target>
         Some((_, target)) => Some(*target),
         None => None,
     }
+}
+
+/// The target of a name in a table.
+fn find_named(targets: &[(&[u8], Target)], text: &[u8]) -> Option<Target>
+    ensures { result ≡ target_in (map (λ entry. (entry.0.now, entry.1)) targets.now) text.now }
+{
+    find_entry(targets, text)
 }
 
 /// The target of a name.
@@ -90,11 +96,18 @@ impl Target {
     }
 }
 
+/// Where the first `=` of a text stands.
+fn equals_at(text: &[u8]) -> Option<usize>
+    ensures { result ≡ position (λ byte. byte == 61) text.now }
+{
+    text.iter().position(|byte| *byte == b'=')
+}
+
 /// The setting that a text X=V stands for, if it stands for one.
 pub fn setting_of(text: &[u8]) -> Option<Setting>
     ensures { result ≡ setting_of text.now }
 {
-    let end = text.iter().position(|byte| *byte == b'=')?;
+    let end = equals_at(text)?;
     let target = target_of(&text[..end])?;
     target.setting(&text[end + 1..])
 }

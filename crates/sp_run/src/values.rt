@@ -1,7 +1,8 @@
 //! The values of options. Numbers are written as the assembler's are: with a digit in front, and a last letter for
 //! the base.
 ghost use Rattle.std.specs.Prelude.{◌≡◌, ◌≤◌, ℕ};
-ghost use Rattle.std.specs.Option.{option_map};
+ghost use Rattle.std.specs.List.{list_all};
+ghost use Rattle.std.specs.Char.{is_ascii_digit};
 ghost use Rattle.sp_lex.specs.Numbers.{at_most, number_of};
 ghost use Rattle.sp_run.specs.Values.{byte_of, word_of, bit_of, count_of};
 
@@ -38,12 +39,19 @@ pub fn bit_value(text: &[u8]) -> Option<bool>
     Some(value_within(1, text)? == 1)
 }
 
+fn has_digits_alone(text: &[u8]) -> bool
+    ensures { result ≡ list_all is_ascii_digit text.now }
+{
+    text.iter().all(|byte| byte.is_ascii_digit())
+}
+
 /// A number of steps, in decimal digits alone.
 pub fn count_value(text: &[u8]) -> Option<u32>
     ensures { result ≡ count_of text.now }
 {
-    if !text.iter().all(|byte| byte.is_ascii_digit()) {
-        return None;
+    if has_digits_alone(text) {
+        Some(value_within(MOST_STEPS, text)? as u32)
+    } else {
+        None
     }
-    Some(value_within(MOST_STEPS, text)? as u32)
 }

@@ -1,12 +1,10 @@
-use Rattle.std.proofs.Common.{ap, ◌∙◌, ◌++◌, codes, append_assoc}
-use Rattle.sp_run.specs.Texts.{flag_digit}
+use Rattle.std.proofs.Common.{rules}
+use Rattle.sp_run.proofs.TextLaws.{flags_pushed}
 use Rattle.sp_run.proofs.texts.push_flags.Goals as goal
 
 pub returns : goal.returns
 returns c =
-    let core = c.args.machine.now in
-    c.in_ok-push_flag-5.ensures ∙ ap (λ t. t ++ codes " CY=" ++ flag_digit core.cy) (
-    c.in_ok-push_flag-4.ensures ∙ ap (λ t. t ++ codes " P=" ++ flag_digit core.p) (
-    c.in_ok-push_flag-3.ensures ∙ ap (λ t. t ++ codes " AC=" ++ flag_digit core.ac) (
-    c.in_ok-push_flag-2.ensures ∙ ap (λ t. t ++ codes " Z=" ++ flag_digit core.z) c.in_ok-push_flag.ensures)))
-    ∙ simp append_assoc
+    flags_pushed c.args.machine.now c.flag.result c.flag-2.result c.flag-3.result c.flag-4.result c.flag-5.result
+    c.args.text.now.items c.push_flag.new.text.items c.push_flag-2.new.text.items c.push_flag-3.new.text.items c.push_flag-4.new.text.items c.push_flag-5.new.text.items
+    c.flag.ensures.value c.flag-2.ensures.value c.flag-3.ensures.value c.flag-4.ensures.value c.flag-5.ensures.value
+    c.in_ok-push_flag.ensures c.in_ok-push_flag-2.ensures c.in_ok-push_flag-3.ensures c.in_ok-push_flag-4.ensures c.in_ok-push_flag-5.ensures
