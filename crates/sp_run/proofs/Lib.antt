@@ -1,3 +1,4 @@
+pub mod FormLaws
 pub mod PrefixLaws
 pub mod RowLaws
 pub mod RunLaws
