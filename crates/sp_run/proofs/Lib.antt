@@ -1,5 +1,6 @@
 pub mod FormLaws
 pub mod PrefixLaws
+pub mod ReadLaws
 pub mod RowLaws
 pub mod RunLaws
 pub mod SettingLaws

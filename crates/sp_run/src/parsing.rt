@@ -3,9 +3,10 @@ ghost use Rattle.std.specs.List.{filter_map};
 ghost use Rattle.sp_run.specs.Words.{words_of};
 ghost use Rattle.sp_run.specs.Options.{options_of};
 ghost use Rattle.sp_run.specs.Settings.{setting_of};
+ghost use Rattle.sp_run.specs.Values.{word_of, count_of};
 ghost use Rattle.sp_run.specs.Matches.{HasGiven};
 
-use crate::settings::{Options, Settings};
+use crate::settings::{Options, Setting, Settings};
 use crate::targets::setting_of;
 use crate::values::{count_value, word_value};
 use clap::{Arg, ArgAction, ArgMatches, Command};
@@ -37,12 +38,30 @@ fn parse<'a>(alloc: Global, words: &'a [String]) -> Result<ArgMatches<'a>, Memor
     }
 }
 
-/// The settings that texts stand for.
-fn settings_of(alloc: Global, texts: &[&str]) -> Result<Settings, Memory>
-    ensures { IfOk result (λ settings. settings ≡ filter_map (λ text. setting_of text.now) texts.now) }
+fn setting_in(text: &str) -> Option<Setting>
+    ensures { result ≡ setting_of text.now }
 {
-    let settings = texts.iter().filter_map(|text| setting_of(text.as_bytes()));
-    Ok(Settings::from_vec(settings.collect(alloc)?))
+    setting_of(text.as_bytes())
+}
+
+/// The settings that texts stand for.
+fn settings_of(alloc: Global, texts: &[&str]) -> Result<Vec<Setting>, Memory>
+    ensures { IfOk result (λ settings. settings.items ≡ filter_map (λ text. setting_of text.now) texts.now) }
+{
+    let settings = texts.iter().filter_map(|text| setting_in(text));
+    Ok(settings.collect(alloc)?)
+}
+
+fn pc_in(text: &str) -> Option<u16>
+    ensures { result ≡ word_of text.now }
+{
+    word_value(text.as_bytes())
+}
+
+fn steps_in(text: &str) -> Option<u32>
+    ensures { result ≡ count_of text.now }
+{
+    count_value(text.as_bytes())
 }
 
 /// The options of option words that are in their form.
@@ -51,17 +70,13 @@ pub fn read_options(alloc: Global, words: &[String]) -> Result<Options, Memory>
     ensures { IfOk result (λ options. options_of (words_of words.now) ≡ Some options) }
 {
     let matches = parse(alloc, words)?;
-    let settings = match matches.get_strs("set") {
-        Some(texts) => settings_of(alloc, texts)?,
-        None => Settings::from_vec(Vec::new(alloc)),
-    };
-    let pc = matches.get_str("pc");
-    let steps = matches.get_str("steps");
+    let texts = matches.get_strs("set").unwrap_or(&[]);
+    let settings = settings_of(alloc, texts)?;
+    let pc = matches.get_str("pc").and_then(pc_in);
+    let steps = matches.get_str("steps").and_then(steps_in);
     Ok(Options {
-        pc: pc.and_then(|text| word_value(text.as_bytes())),
-        steps: steps
-            .and_then(|text| count_value(text.as_bytes()))
-            .unwrap_or(STEPS),
-        settings,
+        pc,
+        steps: steps.unwrap_or(STEPS),
+        settings: Settings::from_vec(settings),
     })
 }

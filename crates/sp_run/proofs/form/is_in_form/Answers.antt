@@ -1,4 +1,4 @@
-use Rattle.std.proofs.Common.{◌≡◌, ◌∙◌, sym, ap, [], arith, drop_of_length-le, rules}
+use Rattle.std.proofs.Common.{◌≡◌, ◌∙◌, sym, ap, [], drop, arith, drop_of_length-le, rules}
 use Rattle.sp_run.specs.Words.{words_of}
 use Rattle.sp_run.specs.Form.{admits}
 use Rattle.sp_run.proofs.FormLaws.{admits-end, admits-form}
@@ -9,6 +9,6 @@ loop-word-init c = admits-form (words_of c.args.words.now)
 
 pub returns : goal.returns
 returns c =
-    let none : admits c.loop-word.reader [] ≡ admits c.loop-word.reader (words_of (Rattle.std.proofs.Common.drop c.loop-word.word-index c.args.words.now)) =
+    let none : admits c.loop-word.reader [] ≡ admits c.loop-word.reader (words_of (drop c.loop-word.word-index c.args.words.now)) =
     sym (ap (λ ws. admits c.loop-word.reader (words_of ws)) (drop_of_length-le c.args.words.now (omega arith))) in
     admits-end c.loop-word.reader c.is_none.result (search rules) ∙ none ∙ c.loop-word.invariant
