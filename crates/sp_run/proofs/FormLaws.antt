@@ -1,6 +1,6 @@
 -- The form of option words, as it is tested word by word.
-use Rattle.std.proofs.Common.{◌≡◌, ◌∙◌, sym, ap, ap₂, subst, refl, ◌&&◌, Bool, cond, true, false, not, ℕ, List, [], ◌∷◌, map, drop, Option, Some, None, is_some, IsTrue}
-use Rattle.std.specs.Prelude.{option_map, option_and_then, IsSome}
+use Rattle.std.proofs.Common.{◌≡◌, ◌∙◌, sym, ap, ap₂, refl, ◌&&◌, Bool, cond, true, false, not, ℕ, List, [], ◌∷◌, Option, Some, None, is_some}
+use Rattle.std.specs.Prelude.{option_map, option_and_then}
 use Rattle.std.specs.List.{list_all}
 use Rattle.sp_run.specs.declared.form.Reader.{Reader}
 use Rattle.sp_run.specs.declared.names.OptionName.{OptionName}
@@ -153,8 +153,10 @@ options_fit given =
   where
     pc : Option (Option ℕ)
     pc = at_most_once (λ text. option_map Some (word_of text)) None (texts_of Pc given)
+
     steps : Option ℕ
     steps = at_most_once count_of 10000 (texts_of Steps given)
+
     settings : Option (List Setting)
     settings = settings_of (texts_of Set given)
 

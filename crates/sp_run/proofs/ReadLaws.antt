@@ -4,7 +4,7 @@ use Rattle.std.specs.Prelude.{option_map, option_and_then, slice_get, unwrap_or,
 use Rattle.std.specs.List.{filter_map, cons_option}
 use Rattle.std.specs.Borrow.{Bor}
 use Rattle.clap.specs.Matches.{found_of, first_value, matched_of, raw_values}
-use Rattle.clap.specs.Walk.{Row, all_of, first_of, rows_of}
+use Rattle.clap.specs.Walk.{Row, rows_of}
 use Rattle.clap.specs.declared.parser.matches.ArgMatches.{ArgMatches}
 use Rattle.clap.proofs.WalkLemmas.{first_value-rows, raw_values-rows}
 use Rattle.sp_run.specs.declared.names.OptionName.{OptionName}
@@ -128,6 +128,7 @@ read_is words m o some found pc steps settings = go (given_from None words) refl
     whole_is given e (Some whole) f =
         let fit : fits false false given ≡ true = sym (options_fit given) ∙ ap is_some f in
         ap (option_and_then options_from) e ∙ f ∙ ap Some (all_read m given o whole (found given e fit) f pc steps settings)
+
     go : (g : Option (List (OptionName × List ℕ))) → given_from None words ≡ g → options_of words ≡ Some o
     go None e = absurd (true≢false (sym (subst (λ x. IsSome (option_and_then options_from x)) e some)))
     go (Some given) e = whole_is given e (options_from given) refl

@@ -1,6 +1,5 @@
 -- A run of an image has one text.
-use Rattle.std.proofs.Common.{◌≡◌, ◌∙◌, sym, ap, subst, refl, inl, inr, ℕ, ◌<◌, ◌≤◌, arith, false, List, length, get_or}
-use Rattle.std.specs.List.{All}
+use Rattle.std.proofs.Common.{◌≡◌, ◌∙◌, sym, ap, subst, inl, inr, ℕ, ◌<◌, arith}
 use Rattle.std.proofs.lemmas.Bool.{cases_lt}
 use Rattle.std.proofs.lemmas.List.{ext_get_or}
 use Rattle.std.proofs.lemmas.List.Elements.{All-get_or}
@@ -12,7 +11,7 @@ use Rattle.sp_model.specs.State.{State, run}
 use Rattle.sp_run.specs.declared.settings.Options.{Options}
 use Rattle.sp_run.specs.Start.{with_counter, with_settings, IsStartCore, IsStart}
 use Rattle.sp_run.specs.Texts.{run_text}
-use Rattle.sp_run.specs.Run.{EndsAfter, IsRunText, OneRunText}
+use Rattle.sp_run.specs.Run.{EndsAfter, OneRunText}
 
 one_blank : (one other : Core) → IsBlank one → IsBlank other → ◌≡◌ {A = Core} one other
 one_blank one other h g =

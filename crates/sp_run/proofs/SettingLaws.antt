@@ -1,5 +1,5 @@
 -- Settings and their texts.
-use Rattle.std.proofs.Common.{◌≡◌, ◌∙◌, sym, ap, refl, ℕ, ◌+◌, ◌≤◌, arith, Bool, true, false, ltb, ltb-false, List, [], length, take, drop, Option, Some, None, drop_of_length-le, codes}
+use Rattle.std.proofs.Common.{◌≡◌, ◌∙◌, ap, refl, ℕ, ◌+◌, ◌≤◌, arith, Bool, true, false, ltb, ltb-false, List, [], length, take, drop, Option, Some, None, drop_of_length-le}
 use Rattle.std.specs.Prelude.{option_map, option_and_then, find, map, unwrap_or, ◌==◌}
 use Rattle.std.specs.List.{position, position_or_len}
 use Rattle.std.specs.Borrow.{Bor}
@@ -39,9 +39,11 @@ no_equals text none = go (ltb (position_or_len is_equals text) (length text)) re
   where
     value : Option Target → List ℕ → Option Setting
     value target rest = option_and_then (λ t. setting_with t rest) target
+
     none_of : (target : Option Target) → option_and_then (λ t. setting_with t []) target ≡ None
     none_of None = refl
     none_of (Some t) = no_value t
+
     go : (b : Bool) → ltb (position_or_len is_equals text) (length text) ≡ b → setting_of text ≡ None
     go true is = let some : Some (position_or_len is_equals text) ≡ None = rw is at none in cc
     go false is =

@@ -1,8 +1,7 @@
 -- A step of the machine and a step of the state.
-use Rattle.std.proofs.Common.{◌≡◌, ◌≢◌, ◌∙◌, sym, ap, ap₂, subst, refl, inl, inr, ℕ, suc, ◌+◌, ◌<◌, ◌≤◌, arith, add-one, below_more, Bool, true, false, true≢false, List, [], ◌∷◌, ◌++◌, drop, Option, Some, None, is_some, append-nil}
+use Rattle.std.proofs.Common.{◌≡◌, ◌∙◌, sym, ap, ap₂, subst, refl, inl, inr, ℕ, ◌+◌, ◌<◌, ◌≤◌, arith, add-one, below_more, Bool, true, false, true≢false, List, [], ◌++◌, drop, Option, Some, None, is_some, append-nil}
 use Rattle.std.specs.Prelude.{slice_get, unwrap_or, option_to_list, if◌then◌else◌}
 use Rattle.std.proofs.lemmas.Grind.{flat_map-append}
-use Rattle.std.proofs.lemmas.Bool.{cases_lt}
 use Rattle.sp_isa.specs.declared.instr.Instr.{Instr}
 use Rattle.sp_isa.specs.declared.instr.Instr.TheVariants as instr
 use Rattle.sp_isa.specs.Core.{Core}
@@ -109,7 +108,7 @@ one_more_step s steps k new inputs inputs' text text' h running moves was left p
       core = was ∙ ap₂ core.step input h.core ∙ sym (ap (λ (u : State). u.core) next);
       rest = left ∙ ap₂ (λ (l : Core) (xs : List ℕ). inputs_after (event l) xs) h.core h.rest ∙ sym (ap (λ (u : State). u.inputs) next);
       put = put ∙ ap₂ (λ (xs : List ℕ) (l : Core). xs ++ output_lines (outputs_of (event l))) h.put h.core
-      ∙ sym (flat_map-append output_line t.outputs (outputs_of (event t.core))) ∙ sym (ap (λ (u : State). output_lines u.outputs) next);
+          ∙ sym (flat_map-append output_line t.outputs (outputs_of (event t.core))) ∙ sym (ap (λ (u : State). output_lines u.outputs) next);
       going = below_more (λ i. ¬ HasStopped (run s i).core) steps h.going (subst (λ (l : Core). ¬ HasStopped l) h.core (goes_on k running moves));
     }
 

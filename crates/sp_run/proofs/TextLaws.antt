@@ -1,5 +1,5 @@
 -- Texts that are made piece by piece.
-use Rattle.std.proofs.Common.{◌≡◌, ◌∙◌, ap, ℕ, List, [], ◌∷◌, ◌++◌, codes, append_assoc}
+use Rattle.std.proofs.Common.{◌≡◌, ◌∙◌, ap, ℕ, List, ◌++◌, codes, append_assoc}
 use Rattle.sp_isa.specs.Core.{Core}
 use Rattle.sp_run.specs.Texts.{flag_digit, flags_text}
 

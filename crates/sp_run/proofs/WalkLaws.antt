@@ -1,25 +1,25 @@
 -- A parser of command lines over option words.
-use Rattle.std.proofs.Common.{nat_eq, eqb-true, ◌≡◌, ◌∙◌, sym, ap, ap₂, subst, refl, ◌&&◌, ◌||◌, Bool, cond, true, false, not, true≢false, ℕ, suc, ◌+◌, ◌==◌, arith, length, take, List, [], ◌∷◌, ◌++◌, map, Option, Some, None, is_some, append-nil, append_assoc, codes}
+use Rattle.std.proofs.Common.{nat_eq, eqb-true, ◌≡◌, ◌∙◌, sym, ap, subst, refl, ◌&&◌, Bool, cond, true, false, not, true≢false, ℕ, suc, ◌+◌, ◌==◌, arith, take, List, [], ◌∷◌, ◌++◌, Option, Some, None, is_some, append-nil, append_assoc, codes}
 use Rattle.std.specs.Option.{option_map, unwrap_or, option_and_then}
 use Rattle.std.specs.List.{fold, list_any, before_first, after_first}
 use Rattle.std.specs.Str.{bytes_eq}
 use Rattle.std.proofs.lemmas.Slice.Eq.{bytes_eq-Decides}
 use Rattle.clap.specs.Lexer.{strip_byte, long_of, long_of_rest, short_of, short_of_rest}
-use Rattle.clap.specs.Walk.{Held, Row, Rule, Walk, Waiting, idle, option, all_of, finished, nothing_held, pushed, reacted, settled, used, walk, walked, with_default, with_values, without}
-use Rattle.clap.specs.Simple.{App, app_of, app_of_fields, built, is_simple, matches_of, new_app, new_rule, on_top, with_rule}
+use Rattle.clap.specs.Walk.{Held, Row, Rule, Walk, idle, option, all_of, finished, nothing_held, pushed, reacted, settled, used, walk, walked, with_default, with_values}
+use Rattle.clap.specs.Simple.{App, built, is_simple, matches_of, new_app, new_rule, on_top, with_rule}
 use Rattle.clap.specs.declared.builder.action.ArgAction.{ArgAction}
 use Rattle.clap.specs.declared.builder.action.ArgAction.TheVariants.{Append}
 use Rattle.clap.specs.declared.builder.action.ArgAction.TheVariants as action
 use Rattle.clap.specs.declared.builder.value_parser.ValueParser.TheVariants as parser
 use Rattle.clap.specs.declared.builder.value_parser.Reading.TheVariants.{AsWritten}
 use Rattle.clap.specs.declared.parser.matches.ValueSource.TheVariants.{CommandLine}
-use Rattle.sp_lex.specs.Numbers.{at_most, number_of}
+use Rattle.sp_lex.specs.Numbers.{number_of}
 use Rattle.sp_run.specs.declared.names.OptionName.{OptionName}
 use Rattle.sp_run.specs.declared.names.OptionName.TheVariants.{Pc, Steps, Set}
 use Rattle.sp_run.specs.Words.{after_prefix, alone, joined, given_from}
 use Rattle.sp_run.specs.Values.{word_of, count_of}
 use Rattle.sp_run.specs.Settings.{setting_of, setting_with, target_of, named}
-use Rattle.sp_run.specs.Options.{is_same, texts_of}
+use Rattle.sp_run.specs.Options.{texts_of}
 use Rattle.sp_run.specs.Form.{fits}
 use Rattle.sp_run.specs.Matches.{id_of}
 use Rattle.sp_run.proofs.PrefixLaws.{after_prefix_is}
@@ -213,6 +213,7 @@ rows_joined word first h is = go (after_prefix (codes "--pc=") word) refl (after
   where
     Joins : OptionName × List ℕ → Type 0
     Joins g = (held : Held) × (walked rules [] (idle_at h) word ≡ idle_at held) × ((settled rules held).rows ≡ used (rule_for g.0) (g.1 ∷ []) (settled rules h).rows)
+
     go : (a : Option (List ℕ)) → after_prefix (codes "--pc=") word ≡ a → (b : Option (List ℕ)) → after_prefix (codes "--steps=") word ≡ b → Joins first
     go (Some value) e b f =
         let same : Some (Pc, value) ≡ Some first = rw e at is in
@@ -252,6 +253,7 @@ over_words None (word ∷ words) given h p s is fit = word_first (alone word) re
     Over : Option OptionName → Type 0
     Over due = (given : List (OptionName × List ℕ)) (h : Held) (p s : Bool) → given_from due words ≡ Some given → fits p s given ≡ true
         → rows_over (walk_at due h) words ≡ uses given (settled rules h).rows
+
     word_first : (a : Option OptionName) → alone word ≡ a → (j : Option (OptionName × List ℕ)) → joined word ≡ j → ((name : OptionName) → Over (Some name)) → Over None
         → rows_over (walk_at None h) (word ∷ words) ≡ uses given (settled rules h).rows
     word_first (Some name) e j f over_due over_none =

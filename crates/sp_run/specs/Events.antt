@@ -2,7 +2,7 @@
 use Rattle.std.specs.Prelude.{◌≡◌, ℕ, Bool, true, false, List, [], ◌∷◌, ◌++◌, drop}
 use Rattle.sp_isa.specs.Step as core
 use Rattle.sp_machine.specs.declared.event.Event.{Event}
-use Rattle.sp_machine.specs.declared.event.Event.TheVariants.{Plain, In, Out, Halted, Stuck}
+use Rattle.sp_machine.specs.declared.event.Event.TheVariants.{In, Out, Stuck}
 use Rattle.sp_machine.specs.Event.{event}
 use Rattle.sp_model.specs.State.{State, next_input, step}
 

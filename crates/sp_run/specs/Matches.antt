@@ -1,5 +1,5 @@
 -- What the parser of command lines finds in option words.
-use Rattle.std.specs.Prelude.{◌≡◌, ℕ, true, false, List, [], Option, Some, None, unwrap_or, codes}
+use Rattle.std.specs.Prelude.{◌≡◌, ℕ, true, false, List, [], Some, None, unwrap_or, codes}
 use Rattle.clap.specs.Words.{all_of, rows_of, found_of}
 use Rattle.clap.specs.declared.parser.matches.ArgMatches.{ArgMatches}
 use Rattle.sp_run.specs.declared.names.OptionName.{OptionName}

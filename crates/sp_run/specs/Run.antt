@@ -1,5 +1,5 @@
 -- What the text of a run is (this project's own).
-use Rattle.std.specs.Prelude.{◌≡◌, ◌⊎◌, ℕ, ◌<◌, ◌≤◌, ◌++◌, true, List, [], ◌∷◌, drop, Option, None, option_to_list}
+use Rattle.std.specs.Prelude.{◌≡◌, ◌⊎◌, ℕ, ◌<◌, ◌≤◌, true, List, None}
 use Rattle.sp_base.specs.Image.{ImageMap}
 use Rattle.sp_isa.specs.Core.{Core}
 use Rattle.sp_model.specs.State.{State, next_instr, run}

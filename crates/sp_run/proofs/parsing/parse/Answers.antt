@@ -1,8 +1,8 @@
-use Rattle.std.proofs.Common.{rules, ◌≡◌, ◌∙◌, ap, ap₂, List, [], true}
+use Rattle.std.proofs.Common.{rules, ◌≡◌, ◌∙◌, ap, ap₂, [], true}
 use Rattle.std.specs.Option.{unwrap_or}
 use Rattle.clap.specs.Matches.{found_of}
 use Rattle.clap.specs.Walk.{all_of, rows_of, rule_of}
-use Rattle.clap.specs.Simple.{App, app_of, app_of_fields, is_simple, matches_of, new_app, on_top, with_rule}
+use Rattle.clap.specs.Simple.{app_of, app_of_fields, is_simple, matches_of, on_top, with_rule}
 use Rattle.sp_run.specs.declared.names.OptionName.TheVariants.{Pc, Steps, Set}
 use Rattle.sp_run.specs.Words.{words_of}
 use Rattle.sp_run.specs.Matches.{id_of}

@@ -14,6 +14,6 @@ returns c =
     let m = c.in_ok-matches.matches in
     let pc : c.and_then-pc.result ≡ option_and_then word_of (first_value (found_of m) (codes "pc")) = search rules in
     let steps : c.unwrap_or.result ≡ unwrap_or (option_and_then count_of (first_value (found_of m) (codes "steps"))) 10000 = search rules in
-    let settings : c.from_vec.result ≡ filter_map setting_of (found_texts Set m) = 
+    let settings : c.from_vec.result ≡ filter_map setting_of (found_texts Set m) =
     c.from_vec.ensures ∙ c.in_ok-settings.ensures ∙ settings_found m c.get_strs.result _ c.unwrap_or-texts.result c.unwrap_or-texts.ensures (search rules) c.get_strs.ensures in
     read_is (words_of c.args.words.now) m _ c.requires c.in_ok-matches.ensures pc steps settings

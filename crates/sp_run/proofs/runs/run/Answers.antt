@@ -1,5 +1,4 @@
 use Rattle.std.proofs.Common.{◌≡◌, ◌∙◌, ap, ap₂, subst, ℕ, List, [], ◌++◌, rules}
-use Rattle.sp_isa.specs.Core.{Core}
 use Rattle.sp_model.specs.State.{State, run}
 use Rattle.sp_run.specs.Texts.{output_lines, state_line}
 use Rattle.sp_run.specs.Run.{EndsAfter}

@@ -1,4 +1,3 @@
-use Rattle.std.proofs.Common.{rules}
 use Rattle.sp_run.proofs.TextLaws.{flags_pushed}
 use Rattle.sp_run.proofs.texts.push_flags.Goals as goal
 
