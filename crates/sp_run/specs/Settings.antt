@@ -50,7 +50,8 @@ setting_with (Flag f) value = option_map (setting.Flag f) (bit_of value)
 setting_with Input value = option_map setting.Input (byte_of value)
 setting_with (Cell a) value = option_map (setting.Cell a) (byte_of value)
 
--- the setting that a text X=V stands for, if it stands for one
+-- the setting that a text X=V stands for, if it stands for one; behind a text without `=` there is no value, and no
+-- number is empty
 unfoldable pub setting_of : List ℕ → Option Setting
 setting_of text =
     option_and_then (λ target. setting_with target (after_first (λ byte. byte == 61) text)) (target_of (before_first (λ byte. byte == 61) text))

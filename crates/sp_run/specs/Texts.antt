@@ -30,9 +30,6 @@ flags_text core =
     codes " S=" ++ flag_digit core.s ++ codes " Z=" ++ flag_digit core.z ++ codes " AC=" ++ flag_digit core.ac ++ codes " P=" ++ flag_digit core.p
     ++ codes " CY=" ++ flag_digit core.cy
 
-abbrev pub pointers_text : Core → List ℕ
-pointers_text core = codes " SP=" ++ four_digits core.sp ++ codes " PC=" ++ four_digits core.pc
-
 -- how a run ended: halted; or stuck at a byte that begins no instruction, where steps were left; or else it was running
 abbrev pub ending_text : (limit steps : ℕ) → Core → List ℕ
 ending_text limit steps core =
@@ -42,7 +39,7 @@ ending_text limit steps core =
 -- the line of the last state
 abbrev pub state_line : (limit steps : ℕ) → Core → List ℕ
 state_line limit steps core =
-    registers_text core ++ flags_text core ++ pointers_text core
+    registers_text core ++ flags_text core ++ codes " SP=" ++ four_digits core.sp ++ codes " PC=" ++ four_digits core.pc
     ++ codes " steps=" ++ decimal steps ++ codes " " ++ ending_text limit steps core ++ 10 ∷ []
 
 -- the text of a run that ended with this state after so many steps: a line for each output, and the line of the state

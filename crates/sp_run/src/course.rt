@@ -1,4 +1,4 @@
-ghost use Rattle.std.specs.Prelude.{◌≡◌, ◌++◌, [], ℕ, IfOk, OnOk, slice_get, unwrap_or};
+ghost use Rattle.std.specs.Prelude.{◌≡◌, ◌++◌, [], IfOk, OnOk};
 ghost use Rattle.sp_model.specs.State.{State, run};
 ghost use Rattle.sp_run.specs.Events.{is_stuck, inputs_after, outputs_of};
 ghost use Rattle.sp_run.specs.Texts.{output_lines};
@@ -11,13 +11,6 @@ use std::alloc::Global;
 
 /// What an IN takes where no input is left.
 const NO_INPUT: u8 = 255;
-
-/// The byte that an IN takes.
-fn next_input(inputs: &[u8]) -> u8
-    ensures { result ≡ unwrap_or (slice_get inputs.now 0) 255 }
-{
-    inputs.first().copied().unwrap_or(NO_INPUT)
-}
 
 fn is_stuck(event: Event) -> bool
     ensures { result ≡ is_stuck event }
@@ -63,7 +56,7 @@ pub fn advance(
         if machine.halted() {
             return Ok((steps, text));
         }
-        let event = machine.step(next_input(rest));
+        let event = machine.step(rest.first().copied().unwrap_or(NO_INPUT));
         if is_stuck(event) {
             return Ok((steps, text));
         }

@@ -3,7 +3,6 @@ ghost use Rattle.std.specs.List.{filter_map};
 ghost use Rattle.sp_run.specs.Words.{words_of};
 ghost use Rattle.sp_run.specs.Options.{options_of};
 ghost use Rattle.sp_run.specs.Settings.{setting_of};
-ghost use Rattle.sp_run.specs.Values.{word_of, count_of};
 ghost use Rattle.sp_run.specs.Matches.{HasGiven};
 
 use crate::settings::{Options, Setting, Settings};
@@ -52,18 +51,6 @@ fn settings_of(alloc: Global, texts: &[&str]) -> Result<Vec<Setting>, Memory>
     Ok(settings.collect(alloc)?)
 }
 
-fn pc_in(text: &str) -> Option<u16>
-    ensures { result ≡ word_of text.now }
-{
-    word_value(text.as_bytes())
-}
-
-fn steps_in(text: &str) -> Option<u32>
-    ensures { result ≡ count_of text.now }
-{
-    count_value(text.as_bytes())
-}
-
 /// The options of option words that are in their form.
 pub fn read_options(alloc: Global, words: &[String]) -> Result<Options, Memory>
     requires { IsSome (options_of (words_of words.now)) }
@@ -72,8 +59,12 @@ pub fn read_options(alloc: Global, words: &[String]) -> Result<Options, Memory>
     let matches = parse(alloc, words)?;
     let texts = matches.get_strs("set").unwrap_or(&[]);
     let settings = settings_of(alloc, texts)?;
-    let pc = matches.get_str("pc").and_then(pc_in);
-    let steps = matches.get_str("steps").and_then(steps_in);
+    let pc = matches
+        .get_str("pc")
+        .and_then(|text| word_value(text.as_bytes()));
+    let steps = matches
+        .get_str("steps")
+        .and_then(|text| count_value(text.as_bytes()));
     Ok(Options {
         pc,
         steps: steps.unwrap_or(STEPS),

@@ -1,6 +1,6 @@
 ghost use Rattle.std.specs.Prelude.{◌≡◌, IfOk};
 ghost use Rattle.sp_isa.specs.Operands.{with_pair};
-ghost use Rattle.sp_run.specs.Start.{bit, with_setting, with_settings, input_of, inputs_of, with_counter, IsStartCore};
+ghost use Rattle.sp_run.specs.Start.{bit, with_setting, with_settings, inputs_of, with_counter, IsStartCore};
 
 use crate::settings::{Options, Setting};
 use sp_base::{Image, Loc, Memory, Pair, Reg};
@@ -59,20 +59,13 @@ pub fn started(alloc: Global, image: &Image, options: &Options) -> Result<Machin
     Ok(machine)
 }
 
-/// The input that a setting gives.
-fn input_of(setting: Setting) -> Option<u8>
-    ensures { result ≡ input_of setting }
-{
-    match setting {
-        Setting::Input(byte) => Some(byte),
-        _ => None,
-    }
-}
-
 /// The inputs that settings give.
 pub fn inputs_of(alloc: Global, settings: &[Setting]) -> Result<Vec<u8>, Memory>
     ensures { IfOk result (λ inputs. inputs.items ≡ inputs_of settings.now) }
 {
-    let inputs = settings.iter().filter_map(|setting| input_of(*setting));
+    let inputs = settings.iter().filter_map(|setting| match *setting {
+        Setting::Input(byte) => Some(byte),
+        _ => None,
+    });
     Ok(inputs.collect(alloc)?)
 }

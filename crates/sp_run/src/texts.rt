@@ -1,6 +1,6 @@
-ghost use Rattle.std.specs.Prelude.{◌≡◌, ◌<◌, ◌≤◌, ◌++◌, ◌∷◌, [], IfOk, OnOk, decimal, codes};
+ghost use Rattle.std.specs.Prelude.{◌≡◌, ◌<◌, ◌≤◌, ◌++◌, ◌∷◌, [], IfOk, OnOk, codes};
 ghost use Rattle.sp_hex.specs.Hex.{digit, two_digits};
-ghost use Rattle.sp_run.specs.Texts.{four_digits, flag_digit, output_line, registers_text, flags_text, pointers_text, ending_text, state_line};
+ghost use Rattle.sp_run.specs.Texts.{four_digits, flag_digit, output_line, registers_text, flags_text, ending_text, state_line};
 
 use sp_base::{Loc, Memory, Reg};
 use sp_machine::Machine;
@@ -71,24 +71,6 @@ fn push_flags(text: &mut Vec<u8>, machine: &Machine) -> Result<(), Memory>
     Ok(())
 }
 
-fn push_pointers(text: &mut Vec<u8>, machine: &Machine) -> Result<(), Memory>
-    ensures { OnOk result (text.new.items ≡ text.old.items ++ pointers_text machine.now) }
-{
-    push_word(text, b" SP=", machine.sp())?;
-    push_word(text, b" PC=", machine.pc())?;
-    Ok(())
-}
-
-/// Adds how many steps were taken.
-fn push_steps(alloc: Global, text: &mut Vec<u8>, steps: u32) -> Result<(), Memory>
-    ensures { OnOk result (text.new.items ≡ text.old.items ++ codes " steps=" ++ decimal steps) }
-{
-    let digits = format!(in alloc; "{steps}")?;
-    text.extend_from_slice(b" steps=")?;
-    text.extend_from_slice(digits.as_bytes())?;
-    Ok(())
-}
-
 /// Adds how a run of at most `limit` steps ended.
 fn push_ending(text: &mut Vec<u8>, limit: u32, steps: u32, machine: &Machine) -> Result<(), Memory>
     ensures { OnOk result (text.new.items ≡ text.old.items ++ codes " " ++ ending_text limit steps machine.now) }
@@ -114,8 +96,11 @@ pub fn state_line(
 {
     let mut line = registers_text(alloc, machine)?;
     push_flags(&mut line, machine)?;
-    push_pointers(&mut line, machine)?;
-    push_steps(alloc, &mut line, steps)?;
+    push_word(&mut line, b" SP=", machine.sp())?;
+    push_word(&mut line, b" PC=", machine.pc())?;
+    let digits = format!(in alloc; "{steps}")?;
+    line.extend_from_slice(b" steps=")?;
+    line.extend_from_slice(digits.as_bytes())?;
     push_ending(&mut line, limit, steps, machine)?;
     line.push(b'\n')?;
     Ok(line)

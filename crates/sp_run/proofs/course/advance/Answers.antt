@@ -15,7 +15,7 @@ pub returns-then-is_stuck-clause-core : goal.returns-then-is_stuck-clause-core
 returns-then-is_stuck-clause-core c =
     let running : c.loop-steps.machine.halted ≡ false = cc in
     let stuck : is_stuck (event c.loop-steps.machine) ≡ true = cc in
-    c.step-event.ensures.state ∙ stuck_stays c.next_input.result c.loop-steps.machine running (has_stopped c.loop-steps.machine running stuck) ∙ c.loop-steps.invariant.core
+    c.step-event.ensures.state ∙ stuck_stays c.unwrap_or.result c.loop-steps.machine running (has_stopped c.loop-steps.machine running stuck) ∙ c.loop-steps.invariant.core
 
 pub loop-steps-preserved : goal.loop-steps-preserved
 loop-steps-preserved c =
