@@ -1,0 +1,9 @@
+use Rattle.std.proofs.lemmas.Bool.Decides.{Decides-eqb}
+use Rattle.std.proofs.lemmas.Slice.Eq.{strip_prefix_is}
+use Rattle.sp_run.proofs.PrefixLaws.{after_prefix_told}
+use Rattle.sp_run.proofs.names.after_prefix.Goals as goal
+
+pub returns : goal.returns
+returns c =
+    after_prefix_told c.args.prefix.now c.args.text.now c.strip_prefix.result
+    (strip_prefix_is Decides-eqb c.args.text.now c.args.prefix.now c.strip_prefix.result c.strip_prefix.ensures.cases)

@@ -1,0 +1,10 @@
+pub mod Events
+pub mod Form
+pub mod Matches
+pub mod Options
+pub mod Run
+pub mod Settings
+pub mod Start
+pub mod Texts
+pub mod Values
+pub mod Words
