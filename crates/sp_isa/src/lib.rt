@@ -20,6 +20,7 @@ pub use decoding::{
 pub use effects::{effects_keep_cores, steps_keep_cores};
 pub use encoding::encode;
 pub use instr::{Arg, Cond, Instr, Op, StackPair};
+pub use operand::with_operand;
 pub use reading::reads;
 pub use validity::valid;
 pub use writing::{instructions_change_their_writes_alone, writes, writes_depend_on_reads_alone};

@@ -1,0 +1,14 @@
+pub mod AnswerLaws
+pub mod CauseLaws
+pub mod DataLaws
+pub mod DeclaredLaws
+pub mod ElementLaws
+pub mod FaultLaws
+pub mod NameLaws
+pub mod OperandLaws
+pub mod PlaceLaws
+pub mod RoundLaws
+pub mod RowLaws
+pub mod SplitLaws
+pub mod UniqueLaws
+pub mod ValueLaws

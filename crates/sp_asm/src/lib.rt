@@ -1,0 +1,18 @@
+//! The assembler: the statements of a source at their addresses, with their bytes (8080 Assembly Language Programming Manual;
+//! ranges of bytes and the address after the last statement are this project's own).
+#![tactic(auto)]
+
+mod assembler;
+mod data;
+mod faults;
+mod laws;
+mod listing;
+mod places;
+mod refusal;
+mod rows;
+mod values;
+
+pub use assembler::assemble;
+pub use laws::{a_source_has_one_answer, a_source_has_one_assembly};
+pub use listing::{Item, ItemKind, Items, Listing};
+pub use refusal::{AsmKind, AsmRefusal};
