@@ -15,10 +15,6 @@ mod register;
 mod statement;
 mod tokens;
 
-pub use mnemonic::{
-    Assignment, DataKind, ExpressionKind, Load, MNEMONICS, Mnemonic, PairForm, RegisterForm,
-    StackForm,
-};
 pub use operand::{Characters, Operand, Operands};
 pub use reading::statements;
 pub use refusal::StatementRefusal;

@@ -42,8 +42,11 @@ pub enum Load {
 /// What the value of an expression is used as.
 #[derive(Clone, Copy, Debug, PartialEq, Eq)]
 pub enum ExpressionKind {
+    /// A byte: an immediate one, a port or an item of DB.
     Byte,
+    /// A word: an immediate one, an address or an item of DW.
     Word,
+    /// The number of RST.
     Restart,
 }
 

@@ -1,7 +1,5 @@
-use crate::mnemonic::mnemonic_named;
-use crate::{
-    Code, DataKind, Load, MNEMONICS, Mnemonic, Operand, Statement, StatementRefusal, statements,
-};
+use crate::mnemonic::{DataKind, Load, MNEMONICS, Mnemonic, mnemonic_named};
+use crate::{Code, Operand, Statement, StatementRefusal, statements};
 use sp_base::{Line, Name};
 use sp_expr::is_reserved;
 use sp_isa::{Instr, encode, valid};
