@@ -3,6 +3,7 @@ pub mod Bodies
 pub mod Data
 pub mod Expressions
 pub mod Held
+pub mod Manual
 pub mod Mnemonics
 pub mod Reading
 pub mod Registers

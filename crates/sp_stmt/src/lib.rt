@@ -6,6 +6,7 @@
 mod body;
 mod data;
 mod expression;
+mod laws;
 mod mnemonic;
 mod operand;
 mod plain;
