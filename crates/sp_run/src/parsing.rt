@@ -51,7 +51,8 @@ fn settings_of(alloc: Global, texts: &[&str]) -> Result<Vec<Setting>, Memory>
     Ok(settings.collect(alloc)?)
 }
 
-/// The options of option words that are in their form.
+/// The options of option words that are in their form, `--steps` being 10,000 where it isn't given. A parse that fails
+/// is answered as want of memory.
 pub fn read_options(alloc: Global, words: &[String]) -> Result<Options, Memory>
     requires { IsSome (options_of (words_of words.now)) }
     ensures { IfOk result (λ options. options_of (words_of words.now) ≡ Some options) }

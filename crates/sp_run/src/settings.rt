@@ -81,7 +81,7 @@ impl Settings {
 pub struct Options {
     /// The program counter at the start, where it isn't 0.
     pub pc: Option<u16>,
-    /// The most steps.
+    /// The most steps; from words, 0 to 1,000,000.
     pub steps: u32,
     /// The settings that are made once the image is loaded.
     pub settings: Settings,
