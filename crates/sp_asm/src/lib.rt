@@ -16,3 +16,6 @@ pub use assembler::assemble;
 pub use laws::{a_source_has_one_answer, a_source_has_one_assembly};
 pub use listing::{Item, ItemKind, Items, Listing};
 pub use refusal::{AsmKind, AsmRefusal};
+
+#[cfg(test)]
+mod tests;
