@@ -29,8 +29,9 @@ use Rattle.sp_cli.specs.Texts.{usage_text}
 use Rattle.sp_cli.specs.Ends.{PutEnds}
 use Rattle.sp_cli.specs.After.{UsageAfter}
 
-abbrev first : List (List ℕ) → List ℕ
-first words = get_or words 0 []
+-- the first letter of the first word
+abbrev letter : List (List ℕ) → ℕ
+letter words = get_or (get_or words 0 []) 0 0
 
 -- words have one form
 pub one_form : (words : List (List ℕ)) (c d : Command) → HasForm words c → HasForm words d → c ≡ d
@@ -43,12 +44,12 @@ one_form words (Asm s i) (Asm s' i') h g =
 one_form words (Run i os) (Run i' os') h g =
     let same = sym h.0 ∙ g.0 in
     λ j. Run (ap (λ ws. get_or ws 1 []) same j) (ap (λ ws. drop 2 ws) same j)
-one_form words (Verify s t i) (Asm s' i') h g = let e = ap first (sym h.0 ∙ g.0) in cc
-one_form words (Verify s t i) (Run i' os) h g = let e = ap first (sym h.0 ∙ g.0) in cc
-one_form words (Asm s i) (Verify s' t i') h g = let e = ap first (sym h.0 ∙ g.0) in cc
-one_form words (Asm s i) (Run i' os) h g = let e = ap first (sym h.0 ∙ g.0) in cc
-one_form words (Run i os) (Verify s t i') h g = let e = ap first (sym h.0 ∙ g.0) in cc
-one_form words (Run i os) (Asm s i') h g = let e = ap first (sym h.0 ∙ g.0) in cc
+one_form words (Verify s t i) (Asm s' i') h g = let e : 118 ≡ 97 = ap letter (sym h.0 ∙ g.0) in absurd (omega (arith, e))
+one_form words (Verify s t i) (Run i' os) h g = let e : 118 ≡ 114 = ap letter (sym h.0 ∙ g.0) in absurd (omega (arith, e))
+one_form words (Asm s i) (Verify s' t i') h g = let e : 97 ≡ 118 = ap letter (sym h.0 ∙ g.0) in absurd (omega (arith, e))
+one_form words (Asm s i) (Run i' os) h g = let e : 97 ≡ 114 = ap letter (sym h.0 ∙ g.0) in absurd (omega (arith, e))
+one_form words (Run i os) (Verify s t i') h g = let e : 114 ≡ 118 = ap letter (sym h.0 ∙ g.0) in absurd (omega (arith, e))
+one_form words (Run i os) (Asm s i') h g = let e : 114 ≡ 97 = ap letter (sym h.0 ∙ g.0) in absurd (omega (arith, e))
 
 same_some : (x y : List ℕ) (o : Option (List ℕ)) → o ≡ Some x → o ≡ Some y → x ≡ y
 same_some x y o h g = let e : Some x ≡ Some y = sym h ∙ g in cc

@@ -1,6 +1,4 @@
 //! Why a command ends before anything is written.
-ghost use Rattle.sp_cli.specs.declared.refusal.Stop.TheVariants as stop;
-
 use sp_asm::{AsmKind, AsmRefusal};
 use sp_base::{Line, Memory, Name};
 use sp_hex::HexRefusal;
@@ -50,6 +48,9 @@ pub enum Stop {
 }
 
 impl From<Memory> for Stop {
+    ghost use Rattle.std.specs.Prelude.{◌≡◌};
+    ghost use Rattle.sp_cli.specs.declared.refusal.Stop.TheVariants as stop;
+
     ghost from_gives = { λ _ s. s ≡ stop.Memory };
 
     fn from(_: Memory) -> Stop {
@@ -58,6 +59,7 @@ impl From<Memory> for Stop {
 }
 
 impl From<sp_first::Refusal> for Stop {
+    ghost use Rattle.std.specs.Prelude.{◌≡◌};
     ghost use Rattle.sp_cli.specs.StopOf.{verifier_stop};
 
     ghost from_gives = { λ r s. s ≡ verifier_stop r };
@@ -72,6 +74,7 @@ impl From<sp_first::Refusal> for Stop {
 }
 
 impl From<LexRefusal> for Stop {
+    ghost use Rattle.std.specs.Prelude.{◌≡◌};
     ghost use Rattle.sp_cli.specs.StopOf.{lex_stop};
 
     ghost from_gives = { λ r s. s ≡ lex_stop r };
@@ -88,6 +91,7 @@ impl From<LexRefusal> for Stop {
 }
 
 impl From<AsmRefusal> for Stop {
+    ghost use Rattle.std.specs.Prelude.{◌≡◌};
     ghost use Rattle.sp_cli.specs.StopOf.{asm_stop};
 
     ghost from_gives = { λ r s. s ≡ asm_stop r };
@@ -110,6 +114,7 @@ impl From<AsmRefusal> for Stop {
 }
 
 impl From<HexRefusal> for Stop {
+    ghost use Rattle.std.specs.Prelude.{◌≡◌};
     ghost use Rattle.sp_cli.specs.StopOf.{hex_stop};
 
     ghost from_gives = { λ r s. s ≡ hex_stop r };
