@@ -18,8 +18,8 @@ kept_input files now input name bytes same h = record { there = sym (same name) 
 
 -- an accepted source and its scripts give the product of `verify`
 pub verified_product : (told : Bool) (files : Contents) (source scripts image s t : List ℕ) (m : ImageMap) (p : Product)
-  → (IsTrue told → IsInput files Source source s) → (IsTrue told → IsInput files Scripts scripts t) → IsAccepted s t → IsTheImage s m
-  → p.image.items ≡ text m → p.report.items ≡ accepted_text → IsProduct told files (Verify source scripts image) p
+    → (IsTrue told → IsInput files Source source s) → (IsTrue told → IsInput files Scripts scripts t) → IsAccepted s t → IsTheImage s m
+    → p.image.items ≡ text m → p.report.items ≡ accepted_text → IsProduct told files (Verify source scripts image) p
 verified_product told files source scripts image s t m p has_source has_scripts accepted right written report = record {
   accepts = λ tells. (s, t, record { has_source = has_source tells; has_scripts = has_scripts tells }, accepted);
   image = λ tells name named. (m, (s, (has_source tells).there, right), written);
@@ -41,7 +41,7 @@ module _ (told : Bool) (files : Contents) (source image bytes : List ℕ) (input
 
 -- a text that stands for an image gives the product of `run`
 pub ran_product : (told : Bool) (files : Contents) (image bytes : List ℕ) (words : List (List ℕ)) (m : ImageMap) (p : Product)
-  → (IsTrue told → IsInput files Image image bytes) → StandsFor bytes m → IsRunOf words m p.report.items → IsProduct told files (Run image words) p
+    → (IsTrue told → IsInput files Image image bytes) → StandsFor bytes m → IsRunOf words m p.report.items → IsProduct told files (Run image words) p
 ran_product told files image bytes words m p input stands says =
     let holds : IsTrue told → HoldsImageText files image m = λ tells. record { text = bytes; input = input tells; stands = stands } in
     record {

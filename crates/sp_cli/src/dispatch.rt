@@ -38,7 +38,11 @@ fn produce<F: Files>(alloc: Global, files: &mut F, command: Command<'_>) -> Resu
 }
 
 /// Writes the text of the image, where the command has one.
-fn write_image<F: Files>(files: &mut F, command: Command<'_>, text: &[u8]) -> Result<(), WriteRefusal>
+fn write_image<F: Files>(
+    files: &mut F,
+    command: Command<'_>,
+    text: &[u8],
+) -> Result<(), WriteRefusal>
     ensures answer { (name : List ℕ) → cmd.image_name (command_of command.entry) ≡ Some name → IsTrue (F.tells files.old) → AnswersWrite (F.contents files.old name) text.now result (F.contents files.new name) }
     ensures others { (q : List ℕ) → cmd.image_name (command_of command.entry) ≢ Some q → F.contents files.new q ≡ F.contents files.old q }
     ensures told { F.tells files.new ≡ F.tells files.old }

@@ -50,11 +50,7 @@ fn verdict(alloc: Global, source: &[u8], scripts: &[u8]) -> Result<Accepted, Sto
 }
 
 /// Reads the inputs of `verify` and verifies them.
-pub fn verified<F: Files>(
-    alloc: Global,
-    files: &mut F,
-    names: Verify<'_>,
-) -> Result<Product, Stop>
+pub fn verified<F: Files>(alloc: Global, files: &mut F, names: Verify<'_>) -> Result<Product, Stop>
     ensures ok { IfOk result (IsProduct (F.tells files.old) (F.contents files.old) (verify_of names.entry)) }
     ensures refused { (r : _) → result ≡ Err (Stop.Refused r) → IsTrue (F.tells files.old) → Stands (F.contents files.old) (verify_of names.entry) (refusal_of r) }
     ensures fault { IsErrOf result Stop.Fault → Rose (F.read_faults files.old) (F.read_faults files.new) }

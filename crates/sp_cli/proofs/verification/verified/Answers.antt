@@ -11,4 +11,6 @@ returns-clause-ok g c =
     verified_product (g.F.Files.tells c.args.files.now) files c.args.names.source.now c.args.names.scripts.now c.args.names.image.now c.in_ok-source.source.items c.in_ok-scripts.scripts.items c.in_ok-accepted.accepted.image _
     c.in_ok-source.ensures.ok
     (λ tells. kept_input files (g.F.Files.contents c.read_input.new.files) Scripts c.args.names.scripts.now c.in_ok-scripts.scripts.items c.in_ok-source.ensures.files (c.in_ok-scripts.ensures.ok (subst IsTrue (sym c.in_ok-source.ensures.told) tells)))
-    ? ? c.in_ok-product_of.ensures.image c.in_ok-product_of.ensures.report
+    (subst (λ s. IsAccepted s c.in_ok-scripts.scripts.items) c.deref.ensures.value (subst (IsAccepted c.deref.result.now) c.deref-2.ensures.value c.in_ok-accepted.ensures.accepted))
+    (subst (λ s. IsTheImage s c.in_ok-accepted.accepted.image) c.deref.ensures.value c.in_ok-accepted.ensures.right)
+    c.in_ok-product_of.ensures.image c.in_ok-product_of.ensures.report
