@@ -1,17 +1,18 @@
 -- How a command ends, from how its text was put.
 use Rattle.std.proofs.Common.{◌≡◌, ℕ, Bool, List, refl, sym, ap, subst, ◌∙◌, Some, inl, inr}
 use Rattle.std.specs.Prelude.{Option, IsTrue}
-use Rattle.sp_base.specs.Image.{ImageMap}
 use Rattle.sp_base.specs.Files.{IsFrontOf}
-use Rattle.sp_hex.specs.Hex.{text}
 use Rattle.sp_cli.specs.declared.status.Status.{Status}
 use Rattle.sp_cli.specs.declared.status.Status.TheVariants as status
-use Rattle.sp_cli.specs.Command.{Command, Verify, image_name, Refusal, Contents, Stands, Accepts}
-use Rattle.sp_cli.specs.Space.{Took, RightImage, HoldsImage, HoldsFront}
-use Rattle.sp_cli.specs.Stop.{AcceptsWith}
-use Rattle.sp_cli.specs.Texts.{refusal_text, accepted_text}
+use Rattle.sp_cli.specs.declared.print.Product.{Product}
+use Rattle.sp_cli.specs.Command.{Command, image_name}
+use Rattle.sp_cli.specs.Inputs.{Contents}
+use Rattle.sp_cli.specs.Refusal.{Refusal, Stands, Accepts}
+use Rattle.sp_cli.specs.Space.{Took, HoldsImage, HoldsFront, IsReport}
+use Rattle.sp_cli.specs.Product.{IsProduct}
+use Rattle.sp_cli.specs.Texts.{refusal_text}
 use Rattle.sp_cli.specs.Ends.{PutEnds}
-use Rattle.sp_cli.specs.After.{RefusedAs, ImageAfter, SinkAfter}
+use Rattle.sp_cli.specs.After.{RefusedAs, DoneAs, ImageAfter, SinkAfter}
 
 module _ (c : Command) (told : Bool) (files : Contents) (sink_told : Bool) (before after : List ℕ) (faults_before faults_after : ℕ) (result : Status) where
   pub took : (which : Status) (line : List ℕ) → (status.SinkFault ≡ which → ⊥) → (status.Memory ≡ which → ⊥) → PutEnds which line sink_told before after faults_before faults_after result → result ≡ which → Took sink_told before after line
@@ -22,37 +23,37 @@ module _ (c : Command) (told : Bool) (files : Contents) (sink_told : Bool) (befo
   pub refused : (r : Refusal) → (IsTrue told → Stands files c r) → PutEnds status.Refused (refusal_text r) sink_told before after faults_before faults_after result → result ≡ status.Refused → RefusedAs c told files sink_told before after
   refused r stands h is = record { refusal = r; stands = stands; put = took status.Refused (refusal_text r) (λ e. cc) (λ e. cc) h is }
 
-  pub image_refused : (r : Refusal) (image : Option (List ℕ)) → Stands files c r → image ≡ files (image_name c) → PutEnds status.Refused (refusal_text r) sink_told before after faults_before faults_after result → ImageAfter result files c image
-  image_refused r image stands same (inl h) = subst (λ s. ImageAfter s files c image) (sym h.0) same
-  image_refused r image stands same (inr (inl h)) = subst (λ s. ImageAfter s files c image) (sym h.0) (inl ((r, stands), same))
-  image_refused r image stands same (inr (inr h)) = subst (λ s. ImageAfter s files c image) (sym h.0) (inl same)
+  pub image_refused : (r : Refusal) (name : List ℕ) (image : Option (List ℕ)) → Stands files c r → image ≡ files name → PutEnds status.Refused (refusal_text r) sink_told before after faults_before faults_after result → ImageAfter result files c name image
+  image_refused r name image stands same (inl h) = subst (λ s. ImageAfter s files c name image) (sym h.0) same
+  image_refused r name image stands same (inr (inl h)) = subst (λ s. ImageAfter s files c name image) (sym h.0) (inl ((r, stands), same))
+  image_refused r name image stands same (inr (inr h)) = subst (λ s. ImageAfter s files c name image) (sym h.0) (inl same)
 
   pub sink_refused : (r : Refusal) → (IsTrue told → Stands files c r) → IsTrue sink_told → PutEnds status.Refused (refusal_text r) sink_told before after faults_before faults_after result → SinkAfter result told files c before after
   sink_refused r stands tells (inl h) = subst (λ s. SinkAfter s told files c before after) (sym h.0) (r, stands, h.1 tells)
   sink_refused r stands tells (inr (inl h)) = subst (λ s. SinkAfter s told files c before after) (sym h.0) (refusal_text r, inl (r, stands, refl), h.2 tells)
   sink_refused r stands tells (inr (inr h)) = subst (λ s. SinkAfter s told files c before after) (sym h.0) (inr (refusal_text r, inl (r, stands, refl), h.1 tells))
 
-  pub done : PutEnds status.Done accepted_text sink_told before after faults_before faults_after result → result ≡ status.Done → Took sink_told before after accepted_text
-  done h is = took status.Done accepted_text (λ e. cc) (λ e. cc) h is
+  pub done : (report : List ℕ) → (IsTrue told → Accepts files c) → IsReport told files c report → PutEnds status.Done report sink_told before after faults_before faults_after result → result ≡ status.Done → DoneAs c told files sink_told before after
+  done report accepts says h is = record { accepts = accepts; report = report; is_report = says; put = took status.Done report (λ e. cc) (λ e. cc) h is }
 
-  pub image_done : (image : Option (List ℕ)) → Accepts files c → HoldsImage files c image → PutEnds status.Done accepted_text sink_told before after faults_before faults_after result → ImageAfter result files c image
-  image_done image accepts holds (inl h) = subst (λ s. ImageAfter s files c image) (sym h.0) holds
-  image_done image accepts holds (inr (inl h)) = subst (λ s. ImageAfter s files c image) (sym h.0) (inr (accepts, holds))
-  image_done image accepts holds (inr (inr h)) = subst (λ s. ImageAfter s files c image) (sym h.0) (inr holds)
+  pub image_done : (report name : List ℕ) (image : Option (List ℕ)) → Accepts files c → HoldsImage files c image → PutEnds status.Done report sink_told before after faults_before faults_after result → ImageAfter result files c name image
+  image_done report name image accepts holds (inl h) = subst (λ s. ImageAfter s files c name image) (sym h.0) holds
+  image_done report name image accepts holds (inr (inl h)) = subst (λ s. ImageAfter s files c name image) (sym h.0) (inr (accepts, holds))
+  image_done report name image accepts holds (inr (inr h)) = subst (λ s. ImageAfter s files c name image) (sym h.0) (inr holds)
 
-  pub sink_done : (IsTrue told → Accepts files c) → IsTrue sink_told → PutEnds status.Done accepted_text sink_told before after faults_before faults_after result → SinkAfter result told files c before after
-  sink_done accepts tells (inl h) = subst (λ s. SinkAfter s told files c before after) (sym h.0) (h.1 tells)
-  sink_done accepts tells (inr (inl h)) = subst (λ s. SinkAfter s told files c before after) (sym h.0) (accepted_text, inr (accepts, refl), h.2 tells)
-  sink_done accepts tells (inr (inr h)) = subst (λ s. SinkAfter s told files c before after) (sym h.0) (inr (accepted_text, inr (accepts, refl), h.1 tells))
+  pub sink_done : (report : List ℕ) → (IsTrue told → Accepts files c) → IsReport told files c report → IsTrue sink_told → PutEnds status.Done report sink_told before after faults_before faults_after result → SinkAfter result told files c before after
+  sink_done report accepts says tells (inl h) = subst (λ s. SinkAfter s told files c before after) (sym h.0) (report, says, h.1 tells)
+  sink_done report accepts says tells (inr (inl h)) = subst (λ s. SinkAfter s told files c before after) (sym h.0) (report, inr (accepts, says), h.2 tells)
+  sink_done report accepts says tells (inr (inr h)) = subst (λ s. SinkAfter s told files c before after) (sym h.0) (inr (report, inr (accepts, says), h.1 tells))
 
-pub accepts_with : (files : Contents) (source scripts image : List ℕ) (m : ImageMap) → AcceptsWith files source scripts m → Accepts files (Verify source scripts image)
-accepts_with files source scripts image m h = (h.s, h.t, h.inputs, h.accepted)
+-- the text of a product's image, once it is written, whole or not
+module _ (c : Command) (told : Bool) (files : Contents) (p : Product) (name bytes : List ℕ) (written : Option (List ℕ)) where
+  pub holds_image : IsProduct told files c p → IsTrue told → image_name c ≡ Some name → bytes ≡ p.image.items → written ≡ Some bytes → HoldsImage files c written
+  holds_image h tells named is e =
+      let image = h.image tells name named in
+      (image.0, image.1, e ∙ ap Some (is ∙ image.2))
 
-pub right_image : (files : Contents) (source scripts image : List ℕ) (m : ImageMap) → AcceptsWith files source scripts m → RightImage files (Verify source scripts image) m
-right_image files source scripts image m h = (h.s, h.inputs.has_source.there, h.right)
-
-pub holds_image : (files : Contents) (source scripts image : List ℕ) (m : ImageMap) (bytes : List ℕ) (written : Option (List ℕ)) → AcceptsWith files source scripts m → bytes ≡ text m → written ≡ Some bytes → HoldsImage files (Verify source scripts image) written
-holds_image files source scripts image m bytes written h is e = (m, right_image files source scripts image m h, e ∙ ap Some is)
-
-pub holds_front : (files : Contents) (source scripts image : List ℕ) (m : ImageMap) (bytes front : List ℕ) (written : Option (List ℕ)) → AcceptsWith files source scripts m → bytes ≡ text m → IsFrontOf front bytes → written ≡ Some front → HoldsFront files (Verify source scripts image) written
-holds_front files source scripts image m bytes front written h is begins e = (m, right_image files source scripts image m h, (front, subst (IsFrontOf front) is begins, e))
+  pub holds_front : (front : List ℕ) → IsProduct told files c p → IsTrue told → image_name c ≡ Some name → bytes ≡ p.image.items → IsFrontOf front bytes → written ≡ Some front → HoldsFront files c written
+  holds_front front h tells named is begins e =
+      let image = h.image tells name named in
+      (image.0, image.1, (front, subst (IsFrontOf front) (is ∙ image.2) begins, e))

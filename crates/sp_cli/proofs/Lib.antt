@@ -1,2 +1,4 @@
 pub mod EndLaws
+pub mod ProductLaws
+pub mod StopLaws
 pub mod WordLaws

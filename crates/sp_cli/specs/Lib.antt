@@ -1,9 +1,12 @@
 pub mod After
 pub mod Command
 pub mod Ends
+pub mod Inputs
+pub mod Product
 pub mod Refusal
 pub mod Space
 pub mod Status
 pub mod Stop
 pub mod StopOf
 pub mod Texts
+pub mod Views

@@ -1,13 +1,18 @@
 //! The command line: each command is a call of `space`, over files and a sink that the caller brings.
 #![tactic(auto)]
 
+mod assembly;
 mod command;
+mod dispatch;
+mod inputs;
 mod print;
 mod refusal;
-mod run;
+mod simulation;
 mod status;
+mod texts;
+mod verification;
 
-pub use run::space;
+pub use dispatch::space;
 pub use status::Status;
 
 #[cfg(test)]

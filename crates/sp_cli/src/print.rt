@@ -1,16 +1,23 @@
 //! Putting a command's text, which ends the command.
-ghost use Rattle.std.specs.Prelude.{◌≡◌, ◌++◌, ◌≤◌, IfOk};
-ghost use Rattle.sp_hex.specs.Hex.{text};
-ghost use Rattle.sp_first.specs.Counts.{HasCounts};
+ghost use Rattle.std.specs.Prelude.{◌≡◌, ◌++◌, ◌≤◌};
 ghost use Rattle.sp_cli.specs.Ends.{PutEnds};
-ghost use Rattle.sp_cli.specs.Refusal.{refusal_of};
-ghost use Rattle.sp_cli.specs.Texts.{refusal_text, accepted_text};
+ghost use Rattle.sp_cli.specs.Views.{refusal_of};
+ghost use Rattle.sp_cli.specs.Texts.{refusal_text};
 
 use crate::Status;
-use crate::refusal::{Refusal, refusal_line, report_line};
-use sp_base::{Memory, Sink, WriteRefusal};
-use sp_first::Accepted;
+use crate::refusal::Refusal;
+use crate::texts::refusal_line;
+use sp_base::{Sink, WriteRefusal};
 use std::alloc::Global;
+
+/// What a command makes before anything is written.
+#[derive(Drop)]
+pub struct Product {
+    /// The text of the image, empty for a command that writes none.
+    pub image: Vec<u8>,
+    /// The text that is put where all is done.
+    pub report: Vec<u8>,
+}
 
 /// Puts the text of a status, and answers it.
 pub fn finish<S: Sink>(out: &mut S, line: &[u8], status: Status) -> Status
@@ -35,21 +42,4 @@ pub fn refuse<S: Sink>(alloc: Global, out: &mut S, refusal: Refusal) -> Status
         Ok(line) => finish(out, &line, Status::Refused),
         Err(_) => Status::Memory,
     }
-}
-
-/// The text of an accepted image, and the report.
-pub fn texts_of(alloc: Global, accepted: &Accepted) -> Result<(Vec<u8>, Vec<u8>), Memory>
-    requires { HasCounts accepted.now }
-    ensures image { IfOk result (λ t. t.0.items ≡ text accepted.now.image) }
-    ensures report { IfOk result (λ t. t.1.items ≡ accepted_text) }
-{
-    let image = sp_hex::write(alloc, &accepted.image)?;
-    let report = report_line(
-        alloc,
-        accepted.routines,
-        accepted.conditions,
-        accepted.simplified,
-        accepted.scripted,
-    )?;
-    Ok((image, report))
 }

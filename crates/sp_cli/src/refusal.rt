@@ -1,17 +1,28 @@
-//! What commands print.
-ghost use Rattle.std.specs.Prelude.{◌≡◌, ◌∷◌, ◌++◌, [], IfOk, OnOk, decimal};
-ghost use Rattle.sp_cli.specs.Command as cmd;
-ghost use Rattle.sp_cli.specs.Refusal.{input_of, refusal_of};
-ghost use Rattle.sp_cli.specs.Texts.{input_text, refusal_text, report_text};
-
-use sp_base::Name;
-use std::alloc::{AllocError, Global};
+//! Why a command ends before anything is written.
+use sp_asm::{AsmKind, AsmRefusal};
+use sp_base::{Line, Memory, Name};
+use sp_hex::HexRefusal;
+use sp_lex::{LexRefusal, TextKind};
 
 /// A file that a command reads.
 #[derive(Clone, Copy, Debug, PartialEq, Eq)]
 pub enum Input {
     Source,
     Scripts,
+    Image,
+}
+
+/// How a line of a HEX text is wrong.
+#[derive(Clone, Copy, Debug)]
+pub enum ImageKind {
+    /// It hasn't the form of a record.
+    BadRecord,
+    /// Its bytes don't sum to 0 modulo 256.
+    BadSum,
+    /// An earlier record gave one of its addresses.
+    Overlap,
+    /// It stands behind the end record and isn't empty.
+    AfterEnd,
 }
 
 /// Why a command refuses what it was given.
@@ -21,81 +32,102 @@ pub enum Refusal {
     TooLarge(Input),
     NotBuilt,
     Open(Name, u64),
+    Text(Line, TextKind),
+    Asm(Line, AsmKind),
+    BadImage(Line, ImageKind),
+    NoEnd,
 }
 
-impl Input {
-    /// How the input is called in a refusal.
-    fn as_str(self) -> &'static str
-        ensures { result.now ≡ input_text (input_of self) }
-    {
-        match self {
-            Input::Source => "source",
-            Input::Scripts => "scripts",
+/// Why a command ends before anything is written.
+#[derive(Clone, Copy, Debug)]
+pub enum Stop {
+    /// A file could not be read.
+    Fault,
+    Memory,
+    Refused(Refusal),
+}
+
+impl From<Memory> for Stop {
+    ghost use Rattle.std.specs.Prelude.{◌≡◌};
+    ghost use Rattle.sp_cli.specs.declared.refusal.Stop.TheVariants as stop;
+
+    ghost from_gives = { λ _ s. s ≡ stop.Memory };
+
+    fn from(_: Memory) -> Stop {
+        Stop::Memory
+    }
+}
+
+impl From<sp_first::Refusal> for Stop {
+    ghost use Rattle.std.specs.Prelude.{◌≡◌};
+    ghost use Rattle.sp_cli.specs.StopOf.{verifier_stop};
+
+    ghost from_gives = { λ r s. s ≡ verifier_stop r };
+
+    fn from(refusal: sp_first::Refusal) -> Stop {
+        match refusal {
+            sp_first::Refusal::NotBuilt => Stop::Refused(Refusal::NotBuilt),
+            sp_first::Refusal::Open(name, number) => Stop::Refused(Refusal::Open(name, number)),
+            sp_first::Refusal::Memory => Stop::Memory,
         }
     }
 }
 
-/// The line that says why a command refuses.
-pub fn refusal_line(alloc: Global, refusal: Refusal) -> Result<Vec<u8>, AllocError>
-    ensures { IfOk result (λ line. line.items ≡ refusal_text (refusal_of refusal)) }
-{
-    match refusal {
-        Refusal::Missing(input) => line(alloc, b"refused Missing ", input.as_str().as_bytes()),
-        Refusal::TooLarge(input) => line(alloc, b"refused TooLarge ", input.as_str().as_bytes()),
-        Refusal::NotBuilt => line(alloc, b"refused NotBuilt", b""),
-        Refusal::Open(name, number) => open_line(alloc, name, number),
+impl From<LexRefusal> for Stop {
+    ghost use Rattle.std.specs.Prelude.{◌≡◌};
+    ghost use Rattle.sp_cli.specs.StopOf.{lex_stop};
+
+    ghost from_gives = { λ r s. s ≡ lex_stop r };
+
+    fn from(refusal: LexRefusal) -> Stop {
+        match refusal {
+            LexRefusal::LongLine(line) => Stop::Refused(Refusal::Text(line, TextKind::LongLine)),
+            LexRefusal::BadByte(line) => Stop::Refused(Refusal::Text(line, TextKind::BadByte)),
+            LexRefusal::OpenQuote(line) => Stop::Refused(Refusal::Text(line, TextKind::OpenQuote)),
+            LexRefusal::BadNumber(line) => Stop::Refused(Refusal::Text(line, TextKind::BadNumber)),
+            LexRefusal::Memory => Stop::Memory,
+        }
     }
 }
 
-/// A line of two parts.
-fn line(alloc: Global, front: &[u8], back: &[u8]) -> Result<Vec<u8>, AllocError>
-    ensures { IfOk result (λ line. line.items ≡ (front.now ++ back.now) ++ 10 ∷ []) }
-{
-    let mut line = front.to_vec(alloc)?;
-    line.extend_from_slice(back)?;
-    line.push(b'\n')?;
-    Ok(line)
+impl From<AsmRefusal> for Stop {
+    ghost use Rattle.std.specs.Prelude.{◌≡◌};
+    ghost use Rattle.sp_cli.specs.StopOf.{asm_stop};
+
+    ghost from_gives = { λ r s. s ≡ asm_stop r };
+
+    fn from(refusal: AsmRefusal) -> Stop {
+        let (line, kind) = match refusal {
+            AsmRefusal::Syntax(line) => (line, AsmKind::Syntax),
+            AsmRefusal::TooDeep(line) => (line, AsmKind::TooDeep),
+            AsmRefusal::Duplicate(line) => (line, AsmKind::Duplicate),
+            AsmRefusal::Later(line) => (line, AsmKind::Later),
+            AsmRefusal::Undefined(line) => (line, AsmKind::Undefined),
+            AsmRefusal::ZeroDivisor(line) => (line, AsmKind::ZeroDivisor),
+            AsmRefusal::Range(line) => (line, AsmKind::Range),
+            AsmRefusal::PastEnd(line) => (line, AsmKind::PastEnd),
+            AsmRefusal::Overlap(line) => (line, AsmKind::Overlap),
+            AsmRefusal::Memory => return Stop::Memory,
+        };
+        Stop::Refused(Refusal::Asm(line, kind))
+    }
 }
 
-/// The line of an open condition.
-fn open_line(alloc: Global, name: Name, number: u64) -> Result<Vec<u8>, AllocError>
-    ensures { IfOk result (λ line. line.items ≡ refusal_text (cmd.Open name number)) }
-{
-    let mut line = b"refused Open ".to_vec(alloc)?;
-    line.extend_from_slice(name.as_slice())?;
-    line.extend_from_slice(b".")?;
-    let number = format!(in alloc; "{number}")?;
-    line.extend_from_slice(number.as_bytes())?;
-    line.push(b'\n')?;
-    Ok(line)
-}
+impl From<HexRefusal> for Stop {
+    ghost use Rattle.std.specs.Prelude.{◌≡◌};
+    ghost use Rattle.sp_cli.specs.StopOf.{hex_stop};
 
-/// The line that says how a source was accepted: how many routines and conditions it has, and how many of these were
-/// true by simplification or by a script.
-pub fn report_line(
-    alloc: Global,
-    routines: u32,
-    conditions: u64,
-    simplified: u64,
-    scripted: u64,
-) -> Result<Vec<u8>, AllocError>
-    ensures { IfOk result (λ line. line.items ≡ report_text routines conditions simplified scripted) }
-{
-    let mut line = b"accepted".to_vec(alloc)?;
-    push_count(alloc, &mut line, b" routines=", u64::from(routines))?;
-    push_count(alloc, &mut line, b" conditions=", conditions)?;
-    push_count(alloc, &mut line, b" simplified=", simplified)?;
-    push_count(alloc, &mut line, b" scripted=", scripted)?;
-    line.push(b'\n')?;
-    Ok(line)
-}
+    ghost from_gives = { λ r s. s ≡ hex_stop r };
 
-/// Adds what is counted, and its number.
-fn push_count(alloc: Global, line: &mut Vec<u8>, label: &[u8], count: u64) -> Result<(), AllocError>
-    ensures { OnOk result (line.new.items ≡ line.old.items ++ label.now ++ decimal count) }
-{
-    let count = format!(in alloc; "{count}")?;
-    line.extend_from_slice(label)?;
-    line.extend_from_slice(count.as_bytes())?;
-    Ok(())
+    fn from(refusal: HexRefusal) -> Stop {
+        let (line, kind) = match refusal {
+            HexRefusal::BadRecord(line) => (line, ImageKind::BadRecord),
+            HexRefusal::BadSum(line) => (line, ImageKind::BadSum),
+            HexRefusal::Overlap(line) => (line, ImageKind::Overlap),
+            HexRefusal::AfterEnd(line) => (line, ImageKind::AfterEnd),
+            HexRefusal::NoEnd => return Stop::Refused(Refusal::NoEnd),
+            HexRefusal::Memory => return Stop::Memory,
+        };
+        Stop::Refused(Refusal::BadImage(line, kind))
+    }
 }
