@@ -1,18 +1,101 @@
 #!/usr/bin/env bash
-# Verifies each example, and compares the image with the one that stands beside it.
+# Tries the examples: verifies each that has NAME.scripts, assembles each that has NAME.asm.out, runs each that has NAME.run, and
+# tries each source and image of examples/refused. Images and printed texts must be those that stand beside the example.
+# Then it tries the transcripts that the documents show. What differs is named. SPACE8080 may name another program.
 set -u
 cd "$(dirname "$0")/.." || exit 1
+export SPACE8080="${SPACE8080:-./space8080}"
+work="$(mktemp -d)"
+trap 'rm -rf "$work"' EXIT
+image="$work/image"
+text="$work/text"
 failed=0
-for folder in examples/*/; do
-    name="$(basename "$folder")"
-    image="$(mktemp)"
-    if ! ./space8080 verify "$folder$name.asm" "$folder$name.scripts" "$image" > /dev/null; then
-        echo "example $name: not accepted"
-        failed=1
-    elif ! cmp -s "$image" "$folder$name.hex"; then
-        echo "example $name: another image"
-        failed=1
-    fi
+tried=0
+
+complain() {
+    echo "$1: $2"
+    failed=1
+}
+
+# A file must be the one that stands beside the example.
+compare() {
+    diff "$2" "$3" > "$work/difference" || { complain "$1" "another text than $2"; cat "$work/difference"; }
+}
+
+verify_example() {
+    tried=$((tried + 1))
     rm -f "$image"
+    if "$SPACE8080" verify "$1.asm" "$1.scripts" "$image" > "$text"; then
+        compare "$1" "$1.hex" "$image"
+    else
+        complain "$1" "not accepted"
+        cat "$text"
+    fi
+}
+
+assemble_example() {
+    tried=$((tried + 1))
+    rm -f "$image"
+    "$SPACE8080" asm "$1.asm" "$image" > "$text" || complain "$1" "asm ends with $?"
+    compare "$1" "$1.asm.out" "$text"
+    compare "$1" "$1.hex" "$image"
+}
+
+# Each line of NAME.run has the option words of one run.
+run_example() {
+    local words
+    tried=$((tried + 1))
+    : > "$text"
+    while IFS=' ' read -ra words; do
+        "$SPACE8080" run "$1.hex" "${words[@]}" >> "$text" < /dev/null || complain "$1" "run ${words[*]} ends with $?"
+    done < "$1.run"
+    compare "$1" "$1.run.out" "$text"
+}
+
+# The words after the first must be refused with the text in the file that the first names, and no image be made.
+must_refuse() {
+    local wanted="$1" status
+    shift
+    tried=$((tried + 1))
+    rm -f "$image"
+    "$SPACE8080" "$@" > "$text"
+    status=$?
+    [ "$status" -eq 1 ] || complain "$2" "$1 ends with $status"
+    [ ! -e "$image" ] || complain "$2" "refused, and an image was made"
+    compare "$2" "$wanted" "$text"
+}
+
+# The same, with the text itself first.
+must_say() {
+    echo "$1" > "$work/wanted"
+    shift
+    must_refuse "$work/wanted" "$@"
+}
+
+for folder in examples/*/; do
+    name="$folder$(basename "$folder")"
+    [ "$folder" != examples/refused/ ] || continue
+    before="$tried"
+    [ ! -e "$name.scripts" ] || verify_example "$name"
+    [ ! -e "$name.asm.out" ] || assemble_example "$name"
+    [ ! -e "$name.run" ] || run_example "$name"
+    [ "$tried" -gt "$before" ] || complain "$name" "nothing to try"
 done
+
+for source in examples/refused/*.asm; do
+    must_refuse "${source%.asm}.out" asm "$source" "$image"
+done
+for hex in examples/refused/*.hex; do
+    must_refuse "${hex%.hex}.out" run "$hex"
+done
+
+large="$work/large"
+head -c 1048577 /dev/zero > "$large"
+must_say "refused Missing source" asm "$work/none" "$image"
+must_say "refused Missing image" run "$work/none"
+must_say "refused TooLarge source" asm "$large" "$image"
+must_say "refused TooLarge image" run "$large"
+
+echo "examples tried: $tried"
+tools/manual.sh || failed=1
 exit "$failed"

@@ -1,0 +1,2 @@
+; The quote inside the text must be written twice.
+        DB   'It's 8080'

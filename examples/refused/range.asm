@@ -1,0 +1,2 @@
+; The value is no byte.
+        MVI  A,256

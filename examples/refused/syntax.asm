@@ -1,0 +1,2 @@
+; ORG has no label on its line.
+HERE:   ORG  100H

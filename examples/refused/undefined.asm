@@ -1,0 +1,3 @@
+; No line defines the name.
+        JMP  LOPO
+LOOP:   JMP  LOOP
