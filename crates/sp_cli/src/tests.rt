@@ -1,7 +1,9 @@
 //! Command lines over files and a sink in memory. Expected texts are worked out by hand from the rules.
+mod assembling;
 mod faults;
 mod files;
 mod form;
+mod running;
 mod words;
 
 use crate::{Status, space};
@@ -22,6 +24,9 @@ const FIVE: [&str; 7] = [
 ];
 
 const FIVE_IMAGE: &str = ":030000003E05C9F1\n:00000001FF\n";
+
+/// The last record of each image.
+const END: &str = ":00000001FF\n";
 
 const REPORT: &str = "accepted routines=1 conditions=1 simplified=1 scripted=0\n";
 
@@ -64,6 +69,18 @@ fn files_of(alloc: Global, source: &str, scripts: &str) -> Result<MemFiles, Fail
     files.add("IMG", b"old")?;
     files.add("OTHER", b"kept")?;
     Ok(files)
+}
+
+/// Carries out a command line, whose words single blanks divide.
+fn carry_out(
+    alloc: Global,
+    line: &str,
+    files: &mut MemFiles,
+    out: &mut MemSink,
+) -> Result<Status, Fail> {
+    let words = line.split(' ').collect::<Vec<&str>>(alloc)?;
+    let words = words_of(alloc, &words)?;
+    Ok(space(alloc, &words, files, out))
 }
 
 fn verify(alloc: Global, files: &mut MemFiles, out: &mut MemSink) -> Result<Status, Fail> {

@@ -1,6 +1,7 @@
 //! Files that are not there or too large, in the order in which they are read, and files under the same name.
 use super::{
-    FIVE_IMAGE, NOT_BUILT, OPEN, REPORT, check_source, five, source_with, verify, words_of,
+    FIVE_IMAGE, NOT_BUILT, OPEN, REPORT, carry_out, check_source, five, source_with, verify,
+    words_of,
 };
 use crate::{Status, space};
 use sp_base::{MemFiles, MemSink};
@@ -126,6 +127,29 @@ fn an_image_can_take_the_place_of_an_input(rt: HostRuntime) -> Result<(), Fail> 
         assert_eq!(rt; out.taken(), REPORT.as_bytes());
         // The input is what its file held then, so that what stands there now is no source, or a script.
         assert_eq!(rt; space(alloc, &words, &mut files, &mut out), Status::Refused);
+    }
+    Ok(())
+}
+
+#[test]
+fn a_file_that_is_not_there_is_missing(rt: HostRuntime) -> Result<(), Fail> {
+    let alloc = rt.alloc();
+    let cases = [
+        ("asm NONE IMG", "refused Missing source\n"),
+        ("run NONE", "refused Missing image\n"),
+        ("run NONE --steps 0", "refused Missing image\n"),
+    ];
+    for (line, text) in cases {
+        let mut files = MemFiles::new(alloc);
+        files.add("IMG", b"old")?;
+        let mut out = MemSink::new(alloc);
+        assert_eq!(rt;
+            carry_out(alloc, line, &mut files, &mut out)?,
+            Status::Refused,
+            "{line}"
+        );
+        assert_eq!(rt; out.taken(), text.as_bytes(), "{line}");
+        assert_eq!(rt; files.contents("IMG"), Some(b"old".as_slice()), "{line}");
     }
     Ok(())
 }
