@@ -85,3 +85,8 @@ abbrev pub Accepts : Contents → cmd.Command → Type 0
 Accepts files (cmd.Verify source scripts image) = (s : List ℕ) × (t : List ℕ) × HasInputs files source scripts s t × IsAccepted s t
 Accepts files (cmd.Asm source image) = (rows : List Row) × HoldsAssembly files source rows
 Accepts files (cmd.Run image options) = (m : ImageMap) × HoldsImageText files image m
+
+-- a command has one refusal at most, and none where it accepts
+pub record RefusalsAreOne : Type 0 where
+  pub one : (files : Contents) (c : cmd.Command) (a b : Refusal) → Stands files c a → Stands files c b → a ≡ b
+  pub none : (files : Contents) (c : cmd.Command) (r : Refusal) → Accepts files c → ¬ Stands files c r

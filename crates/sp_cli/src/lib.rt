@@ -5,6 +5,7 @@ mod assembly;
 mod command;
 mod dispatch;
 mod inputs;
+mod laws;
 mod print;
 mod refusal;
 mod simulation;
@@ -13,6 +14,7 @@ mod texts;
 mod verification;
 
 pub use dispatch::space;
+pub use laws::a_command_has_one_refusal;
 pub use status::Status;
 
 #[cfg(test)]

@@ -7,7 +7,8 @@ use Rattle.sp_cli.specs.After.{ImageAfter}
 use Rattle.sp_cli.specs.Ends.{PutEnds}
 use Rattle.sp_cli.specs.Texts.{usage_text}
 use Rattle.sp_cli.specs.Views.{command_of}
-use Rattle.sp_cli.proofs.WordLaws.{one_form, exclusive, done_or_memory, refused_or_memory, usage_after, put_as_usage}
+use Rattle.sp_cli.proofs.RefusalLaws.{exclusive}
+use Rattle.sp_cli.proofs.WordLaws.{one_form, done_or_memory, refused_or_memory, usage_after, put_as_usage}
 use Rattle.sp_cli.proofs.dispatch.space.Goals as goal
 
 pub returns-in-Some-clause-headline : goal.returns-in-Some-clause-headline
