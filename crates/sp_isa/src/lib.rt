@@ -24,6 +24,3 @@ pub use operand::with_operand;
 pub use reading::reads;
 pub use validity::valid;
 pub use writing::{instructions_change_their_writes_alone, writes, writes_depend_on_reads_alone};
-
-#[cfg(test)]
-mod tests;

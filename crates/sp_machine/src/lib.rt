@@ -13,6 +13,3 @@ mod turns;
 
 pub use event::Event;
 pub use machine::Machine;
-
-#[cfg(test)]
-mod tests;

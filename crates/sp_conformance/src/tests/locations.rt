@@ -1,7 +1,6 @@
-mod codes;
-
-use crate::{Arg, Cond, Instr, Op, StackPair, reads, valid, writes};
+//! The registers and flags that instructions use and set, by the 8080 manual.
 use sp_base::{Loc, Locs, Pair, Reg};
+use sp_isa::{Arg, Cond, Instr, Op, StackPair, reads, valid, writes};
 use std::test::Fail;
 
 /// The locations of a list as a set.

@@ -1,11 +1,7 @@
-//! The machine against the 8080 manual: its worked examples, and tables of flags and of addresses at their ends.
-mod edges;
-mod status_word;
-mod wrapping;
-
-use crate::{Event, Machine};
-use sp_base::{Loc, Memory, Reg};
-use std::alloc::Global;
+//! The worked examples of the 8080 manual, and short programs.
+use super::{flags, loaded};
+use sp_base::{Loc, Reg};
+use sp_machine::{Event, Machine};
 use std::test::Fail;
 
 #[test]
@@ -27,38 +23,6 @@ fn a_machine_keeps_its_parts(rt: HostRuntime) -> Result<(), Fail> {
     assert_eq!(rt; copy.cell(0), 0);
     assert!(rt; !copy.halted());
     Ok(())
-}
-
-/// A machine with bytes from an address on, which is also its program counter.
-fn loaded(alloc: Global, pc: u16, bytes: &[u8]) -> Result<Machine, Memory> {
-    let mut machine = Machine::new(alloc)?;
-    let mut a = pc;
-    for byte in bytes {
-        machine.set_cell(a, *byte);
-        a = a.wrapping_add(1);
-    }
-    machine.set_pc(pc);
-    Ok(machine)
-}
-
-/// S, Z, AC, P and CY, each a digit.
-fn flags(machine: &Machine) -> [u8; 5] {
-    [
-        machine.flag(Loc::S),
-        machine.flag(Loc::Z),
-        machine.flag(Loc::Ac),
-        machine.flag(Loc::P),
-        machine.flag(Loc::Cy),
-    ]
-}
-
-/// Gives S, Z, AC, P and CY these values, 0 or 1.
-fn set_flags(machine: &mut Machine, [s, z, ac, p, cy]: [u8; 5]) {
-    machine.set_flag(Loc::S, s % 2);
-    machine.set_flag(Loc::Z, z % 2);
-    machine.set_flag(Loc::Ac, ac % 2);
-    machine.set_flag(Loc::P, p % 2);
-    machine.set_flag(Loc::Cy, cy % 2);
 }
 
 /// An operation's byte, then A, B, AC and CY before it, and A and the flags S, Z, AC, P and CY after it.

@@ -1,7 +1,7 @@
 //! The table of codes of the 8080 manual, written out, byte for byte.
-use crate::Instr::*;
-use crate::{Arg, Cond, Instr, Op, StackPair, decode, encode, valid};
 use sp_base::{Pair, Reg};
+use sp_isa::Instr::*;
+use sp_isa::{Arg, Cond, Instr, Op, StackPair, decode, encode, valid};
 use std::alloc::Global;
 use std::process::Abort;
 use std::test::Fail;

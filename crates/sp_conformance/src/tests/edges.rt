@@ -1,8 +1,8 @@
 //! The accumulator and the flags after each operation at the edges of its operands, worked out from the
 //! 8080 manual's text. Flags stand in the order S, Z, AC, P, CY.
 use super::{flags, loaded, set_flags};
-use crate::{Event, Machine};
 use sp_base::{Memory, Reg};
+use sp_machine::{Event, Machine};
 use std::alloc::Global;
 use std::process::Abort;
 use std::test::Fail;

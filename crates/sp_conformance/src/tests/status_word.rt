@@ -1,7 +1,7 @@
 //! The program status word on the stack: S Z 0 AC 0 P 1 CY. Flags stand in the order S, Z, AC, P, CY.
 use super::{flags, loaded, set_flags};
-use crate::{Event, Machine};
 use sp_base::Reg;
+use sp_machine::{Event, Machine};
 use std::process::Abort;
 use std::test::Fail;
 

@@ -1,7 +1,7 @@
 //! Addresses are taken modulo 65,536: programs, words and the stack at the end of memory.
 use super::{flags, loaded, set_flags};
-use crate::{Event, Machine};
 use sp_base::Reg;
+use sp_machine::{Event, Machine};
 use std::alloc::Global;
 use std::process::Abort;
 use std::test::Fail;
