@@ -16,6 +16,3 @@ mod verification;
 pub use dispatch::space;
 pub use laws::a_command_has_one_refusal;
 pub use status::Status;
-
-#[cfg(test)]
-mod tests;

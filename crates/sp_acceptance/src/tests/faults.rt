@@ -1,7 +1,7 @@
 //! Faults of the files and of the sink, at each call and with each number of bytes kept.
 use super::{FIVE_IMAGE, OPEN, REPORT, files_of, five, source_with, verify, words_of};
-use crate::{Status, space};
 use sp_base::MemSink;
+use sp_cli::{Status, space};
 use std::alloc::Global;
 use std::process::Abort;
 use std::test::Fail;

@@ -1,6 +1,6 @@
 //! Sources at the edges of the first form: each rule kept and broken.
 use super::{FIVE, FIVE_IMAGE, NOT_BUILT, OPEN, REPORT, check_source, source_with};
-use crate::Status;
+use sp_cli::Status;
 use std::alloc::Global;
 use std::process::Abort;
 use std::test::Fail;

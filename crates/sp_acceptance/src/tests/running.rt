@@ -1,7 +1,7 @@
 //! `run`: texts of runs, refusals of each kind, and faults.
 use super::carry_out;
-use crate::Status;
 use sp_base::{MemFiles, MemSink};
+use sp_cli::Status;
 use std::alloc::Global;
 use std::process::Abort;
 use std::test::Fail;

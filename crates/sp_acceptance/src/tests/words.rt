@@ -1,7 +1,7 @@
 //! Words that are in no form, and the numbers of statuses.
 use super::{FIVE_IMAGE, files_of, five, words_of};
-use crate::{Status, space};
 use sp_base::MemSink;
+use sp_cli::{Status, space};
 use std::test::Fail;
 
 const USAGE: &str =

@@ -3,8 +3,8 @@ use super::{
     FIVE_IMAGE, NOT_BUILT, OPEN, REPORT, carry_out, check_source, five, source_with, verify,
     words_of,
 };
-use crate::{Status, space};
 use sp_base::{MemFiles, MemSink};
+use sp_cli::{Status, space};
 use std::alloc::Global;
 use std::process::Abort;
 use std::test::Fail;

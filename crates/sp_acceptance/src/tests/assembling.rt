@@ -1,7 +1,7 @@
 //! `asm`: images, reports, refusals of each kind, and faults.
 use super::{END, carry_out, files_of};
-use crate::Status;
 use sp_base::MemSink;
+use sp_cli::Status;
 use std::alloc::Global;
 use std::process::Abort;
 use std::test::Fail;

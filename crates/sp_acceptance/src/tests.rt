@@ -6,8 +6,8 @@ mod form;
 mod running;
 mod words;
 
-use crate::{Status, space};
 use sp_base::{MemFiles, MemSink};
+use sp_cli::{Status, space};
 use std::alloc::Global;
 use std::process::Abort;
 use std::test::Fail;
