@@ -18,6 +18,21 @@ fn an_image_keeps_bytes_by_address(rt: HostRuntime) -> Result<(), Fail> {
 }
 
 #[test]
+fn bytes_are_placed_up_to_one_that_is_there(rt: HostRuntime) -> Result<(), Fail> {
+    let mut image = Image::new(rt.alloc());
+    assert_eq!(rt; image.place(0xFFFE, &[8, 9]), Ok(true));
+    assert_eq!(rt; image.place(0, &[]), Ok(true));
+    assert_eq!(rt; image.len(), 2);
+    assert_eq!(rt; image.get(0xFFFE), Some(8));
+    assert_eq!(rt; image.get(0xFFFF), Some(9));
+    assert_eq!(rt; image.place(0xFFFD, &[1, 2, 3]), Ok(false));
+    assert_eq!(rt; image.len(), 3);
+    assert_eq!(rt; image.get(0xFFFD), Some(1));
+    assert_eq!(rt; image.get(0xFFFE), Some(8));
+    Ok(())
+}
+
+#[test]
 fn a_name_has_at_most_31_bytes(rt: HostRuntime) {
     let long = [b'A'; 32];
     assert!(rt; Name::new(&long).is_none());
