@@ -14,7 +14,7 @@ pub use laws::{one_answer, one_loading, written_form, written_text};
 pub use loading::load;
 pub use reading::read;
 pub use refusal::HexRefusal;
-pub use writing::write;
+pub use writing::{two_digits, write};
 
 #[cfg(test)]
 mod tests;

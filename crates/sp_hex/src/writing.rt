@@ -22,12 +22,18 @@ fn digit(value: u8) -> u8
     }
 }
 
+/// A byte as two hexadecimal digits, in upper case.
+pub fn two_digits(byte: u8) -> [u8; 2]
+    ensures { result ≡ two_digits byte }
+{
+    [digit(byte / 16), digit(byte % 16)]
+}
+
 fn put_bytes(out: &mut Vec<u8>, bytes: &[u8]) -> Result<(), Memory>
     ensures { OnOk result (out.new.items ≡ out.old.items ++ flat_map two_digits bytes.now) }
 {
     for byte in bytes {
-        out.push(digit(*byte / 16))?;
-        out.push(digit(*byte % 16))?;
+        out.extend_from_slice(&two_digits(*byte))?;
     }
     Ok(())
 }

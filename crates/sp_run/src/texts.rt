@@ -1,29 +1,18 @@
 ghost use Rattle.std.specs.Prelude.{◌≡◌, ◌<◌, ◌≤◌, ◌++◌, ◌∷◌, [], IfOk, OnOk, codes};
-ghost use Rattle.sp_hex.specs.Hex.{digit, two_digits};
+ghost use Rattle.sp_hex.specs.Hex.{two_digits};
 ghost use Rattle.sp_run.specs.Texts.{four_digits, flag_digit, output_line, registers_text, flags_text, ending_text, state_line};
 
 use sp_base::{Loc, Memory, Reg};
+use sp_hex::two_digits;
 use sp_machine::Machine;
 use std::alloc::Global;
-
-fn digit(value: u8) -> u8
-    requires { value < 16 }
-    ensures { result ≡ digit value }
-{
-    if value < 10 {
-        b'0' + value
-    } else {
-        b'A' - 10 + value
-    }
-}
 
 /// Adds a label and a byte in two hexadecimal digits.
 fn push_byte(text: &mut Vec<u8>, label: &[u8], byte: u8) -> Result<(), Memory>
     ensures { OnOk result (text.new.items ≡ text.old.items ++ label.now ++ two_digits byte) }
 {
     text.extend_from_slice(label)?;
-    text.push(digit(byte / 16))?;
-    text.push(digit(byte % 16))?;
+    text.extend_from_slice(&two_digits(byte))?;
     Ok(())
 }
 
