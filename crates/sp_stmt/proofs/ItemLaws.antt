@@ -54,7 +54,7 @@ behind-nothing (Ok a) = ap (λ os. Ok os) (append-nil a)
 behind-nothing (Err e) = refl
 
 -- Syntax stays, whatever stands behind it
-behind-syntax : (a : Operands) → behind (Err Syntax) a ≡ Err Syntax
+pub behind-syntax : (a : Operands) → behind (Err Syntax) a ≡ Err Syntax
 behind-syntax (Ok a) = refl
 behind-syntax (Err Syntax) = refl
 behind-syntax (Err TooDeep) = refl

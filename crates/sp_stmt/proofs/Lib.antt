@@ -1,4 +1,12 @@
 pub mod AnswerLaws
+pub mod BodyLaws
+pub mod DataFormLaws
+pub mod ExactLaws
+pub mod FormLaws
+pub mod GrammarLaws
 pub mod ItemLaws
 pub mod LineLaws
+pub mod MarkLaws
+pub mod NameTableLaws
+pub mod ReservedLaws
 pub mod StatementLaws

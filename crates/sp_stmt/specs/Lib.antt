@@ -2,6 +2,7 @@ pub mod Answers
 pub mod Bodies
 pub mod Data
 pub mod Expressions
+pub mod Grammar
 pub mod Held
 pub mod Manual
 pub mod Mnemonics

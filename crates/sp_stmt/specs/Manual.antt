@@ -1,6 +1,8 @@
 -- The names of instructions and directives (8080 Assembly Language Programming Manual, chapter "Assembly language instructions"),
 -- by families, and the forms of their operands.
-use Rattle.std.specs.Prelude.{◌≡◌, ℕ, List, ◌++◌, Some, codes}
+use Rattle.std.specs.Prelude.{◌≡◌, ℕ, Bool, ◌||◌, List, ◌++◌, Some, is_some, codes}
+use Rattle.sp_expr.specs.Reserved.{is_reserved}
+use Rattle.sp_expr.specs.Words.{operator_named}
 use Rattle.sp_isa.specs.declared.instr.Cond.{Cond}
 use Rattle.sp_isa.specs.declared.instr.Cond.TheVariants as when
 use Rattle.sp_isa.specs.declared.instr.Op.{Op}
@@ -17,6 +19,7 @@ use Rattle.sp_stmt.specs.declared.mnemonic.PairForm.TheVariants as pair
 use Rattle.sp_stmt.specs.declared.mnemonic.RegisterForm.TheVariants as register
 use Rattle.sp_stmt.specs.declared.mnemonic.StackForm.TheVariants as stack
 use Rattle.sp_stmt.specs.Mnemonics.{mnemonic_named}
+use Rattle.sp_stmt.specs.Registers.{arg_named, pair_named, stack_pair_named}
 
 -- a condition, behind the J, C or R of a jump, call or return
 abbrev pub condition_name : Cond → List ℕ
@@ -153,3 +156,12 @@ pub record NamesAreTheManuals : Type 0 where
   pub equ : mnemonic_named (codes "EQU") ≡ Some (Assignment Equ)
   pub set : mnemonic_named (codes "SET") ≡ Some (Assignment Set)
   pub end : mnemonic_named (codes "END") ≡ Some End
+
+-- a mnemonic, a directive, an operator, a register, M, SP or PSW
+abbrev pub has_meaning : List ℕ → Bool
+has_meaning name =
+    is_some (mnemonic_named name) || (is_some (operator_named name) || (is_some (arg_named name) || (is_some (pair_named name) || is_some (stack_pair_named name))))
+
+-- the words that are no names are those that have a meaning
+pub record ReservedWordsHaveMeanings : Type 0 where
+  pub exactly : (name : List ℕ) → is_reserved name ≡ has_meaning name

@@ -16,6 +16,7 @@ mod register;
 mod statement;
 mod tokens;
 
+pub use laws::{lines_are_statements, names_are_the_manuals, reserved_words_have_meanings};
 pub use operand::{Characters, Operand, Operands};
 pub use reading::statements;
 pub use refusal::StatementRefusal;
