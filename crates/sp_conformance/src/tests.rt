@@ -6,9 +6,10 @@ mod locations;
 mod status_word;
 mod wrapping;
 
-use sp_base::{Loc, Memory};
-use sp_machine::Machine;
+use sp_base::{Loc, Memory, Reg};
+use sp_machine::{Event, Machine};
 use std::alloc::Global;
+use std::process::Abort;
 
 /// A machine with bytes from an address on, which is also its program counter.
 fn loaded(alloc: Global, pc: u16, bytes: &[u8]) -> Result<Machine, Memory> {
@@ -40,4 +41,65 @@ fn set_flags(machine: &mut Machine, [s, z, ac, p, cy]: [u8; 5]) {
     machine.set_flag(Loc::Ac, ac % 2);
     machine.set_flag(Loc::P, p % 2);
     machine.set_flag(Loc::Cy, cy % 2);
+}
+
+/// The program counter and the stack pointer, which tell the row of a table where a comparison fails.
+fn place(machine: &Machine) -> (u16, u16) {
+    (machine.pc(), machine.sp())
+}
+
+/// These registers have these bytes.
+fn check_regs(rt: &impl Abort, machine: &Machine, regs: &[(Reg, u8)]) {
+    for (r, byte) in regs {
+        let place = place(machine);
+        assert_eq!(rt; machine.reg(*r), *byte, "{r:?} at {place:?}");
+    }
+}
+
+/// The cells at these addresses have these bytes.
+fn check_cells(rt: &impl Abort, machine: &Machine, cells: &[(u16, u8)]) {
+    for (a, byte) in cells {
+        let place = place(machine);
+        assert_eq!(rt; machine.cell(*a), *byte, "{a} at {place:?}");
+    }
+}
+
+/// The flags have these values.
+fn check_flags(rt: &impl Abort, machine: &Machine, values: [u8; 5]) {
+    let place = place(machine);
+    assert_eq!(rt; flags(machine), values, "at {place:?}");
+}
+
+/// Runs an instruction that goes on, and compares the program counter and the stack pointer after it.
+fn check_step(rt: &impl Abort, machine: &mut Machine, pc: u16, sp: u16) {
+    let start = machine.pc();
+    let code = machine.cell(start);
+    assert_eq!(rt;
+        (machine.step(0), place(machine)),
+        (Event::Plain, (pc, sp)),
+        "{code} at {start}"
+    );
+}
+
+/// Runs the instruction of one byte at address 0, with these bytes in A and B and these flags, and compares A and the
+/// flags after it. B stays.
+fn check_operation(
+    rt: &impl Abort,
+    machine: &mut Machine,
+    [a, b]: [u8; 2],
+    before: [u8; 5],
+    a_after: u8,
+    after: [u8; 5],
+) {
+    machine.set_pc(0);
+    machine.set_reg(Reg::A, a);
+    machine.set_reg(Reg::B, b);
+    set_flags(machine, before);
+    check_step(rt, machine, 1, 0);
+    let code = machine.cell(0);
+    assert_eq!(rt;
+        (machine.reg(Reg::A), machine.reg(Reg::B), flags(machine)),
+        (a_after, b, after),
+        "{code} {a} {b} {before:?}"
+    );
 }

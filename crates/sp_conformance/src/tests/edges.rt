@@ -1,8 +1,8 @@
 //! The accumulator and the flags after each operation at the edges of its operands, worked out from the
 //! 8080 manual's text. Flags stand in the order S, Z, AC, P, CY.
-use super::{flags, loaded, set_flags};
-use sp_base::{Memory, Reg};
-use sp_machine::{Event, Machine};
+use super::{check_operation, loaded};
+use sp_base::Memory;
+use sp_machine::Machine;
 use std::alloc::Global;
 use std::process::Abort;
 use std::test::Fail;
@@ -15,28 +15,8 @@ const BEFORE: [[u8; 5]; 4] = [
     [0, 0, 1, 0, 1],
 ];
 
-/// Runs the instruction of one byte at address 0, with these bytes in A and B.
-fn run(rt: &impl Abort, machine: &mut Machine, a: u8, b: u8, before: [u8; 5]) {
-    machine.set_pc(0);
-    machine.set_reg(Reg::A, a);
-    machine.set_reg(Reg::B, b);
-    set_flags(machine, before);
-    assert_eq!(rt; machine.step(0), Event::Plain);
-    assert_eq!(rt; machine.pc(), 1);
-    assert_eq!(rt; machine.reg(Reg::B), b);
-}
-
 /// A and B before, A and the flags after, whatever the flags before.
 type Operation = (u8, u8, u8, [u8; 5]);
-
-fn check_operation(rt: &impl Abort, machine: &mut Machine, row: &Operation) {
-    let (a, b, result, after) = *row;
-    for before in BEFORE {
-        run(rt, machine, a, b, before);
-        assert_eq!(rt; machine.reg(Reg::A), result, "{a} {b}");
-        assert_eq!(rt; flags(machine), after, "{a} {b}");
-    }
-}
 
 fn check_operations(
     rt: &impl Abort,
@@ -45,25 +25,16 @@ fn check_operations(
     rows: &[Operation],
 ) -> Result<(), Memory> {
     let mut machine = loaded(alloc, 0, &[code])?;
-    for row in rows {
-        check_operation(rt, &mut machine, row);
+    for (a, b, result, after) in rows {
+        for before in BEFORE {
+            check_operation(rt, &mut machine, [*a, *b], before, *result, *after);
+        }
     }
     Ok(())
 }
 
 /// A, B and CY before, A and the flags after, whatever the other flags before.
 type CarriedOperation = (u8, u8, u8, u8, [u8; 5]);
-
-fn check_carried_operation(rt: &impl Abort, machine: &mut Machine, row: &CarriedOperation) {
-    let (a, b, carry, result, after) = *row;
-    for before in BEFORE {
-        if before[4] == carry {
-            run(rt, machine, a, b, before);
-            assert_eq!(rt; machine.reg(Reg::A), result, "{a} {b} {carry}");
-            assert_eq!(rt; flags(machine), after, "{a} {b} {carry}");
-        }
-    }
-}
 
 fn check_carried_operations(
     rt: &impl Abort,
@@ -72,8 +43,12 @@ fn check_carried_operations(
     rows: &[CarriedOperation],
 ) -> Result<(), Memory> {
     let mut machine = loaded(alloc, 0, &[code])?;
-    for row in rows {
-        check_carried_operation(rt, &mut machine, row);
+    for (a, b, carry, result, after) in rows {
+        for before in BEFORE {
+            if before[4] == *carry {
+                check_operation(rt, &mut machine, [*a, *b], before, *result, *after);
+            }
+        }
     }
     Ok(())
 }
@@ -81,19 +56,13 @@ fn check_carried_operations(
 /// A before, A after, and S, Z, AC and P after: CY stays.
 type Count = (u8, u8, [u8; 4]);
 
-fn check_count(rt: &impl Abort, machine: &mut Machine, row: &Count) {
-    let (a, result, [s, z, ac, p]) = *row;
-    for before in BEFORE {
-        run(rt, machine, a, 0, before);
-        assert_eq!(rt; machine.reg(Reg::A), result, "{a}");
-        assert_eq!(rt; flags(machine), [s, z, ac, p, before[4]], "{a}");
-    }
-}
-
 fn check_counts(rt: &impl Abort, alloc: Global, code: u8, rows: &[Count]) -> Result<(), Memory> {
     let mut machine = loaded(alloc, 0, &[code])?;
-    for row in rows {
-        check_count(rt, &mut machine, row);
+    for (a, result, [s, z, ac, p]) in rows {
+        for before in BEFORE {
+            let after = [*s, *z, *ac, *p, before[4]];
+            check_operation(rt, &mut machine, [*a, 0], before, *result, after);
+        }
     }
     Ok(())
 }
@@ -101,22 +70,16 @@ fn check_counts(rt: &impl Abort, alloc: Global, code: u8, rows: &[Count]) -> Res
 /// A and CY before, A and CY after: the other flags stay.
 type Turn = (u8, u8, u8, u8);
 
-fn check_turn(rt: &impl Abort, machine: &mut Machine, row: &Turn) {
-    let (a, carry, result, after) = *row;
-    for before in BEFORE {
-        if before[4] == carry {
-            run(rt, machine, a, 0, before);
-            let [s, z, ac, p, _] = before;
-            assert_eq!(rt; machine.reg(Reg::A), result, "{a} {carry}");
-            assert_eq!(rt; flags(machine), [s, z, ac, p, after], "{a} {carry}");
-        }
-    }
-}
-
 fn check_turns(rt: &impl Abort, alloc: Global, code: u8, rows: &[Turn]) -> Result<(), Memory> {
     let mut machine = loaded(alloc, 0, &[code])?;
-    for row in rows {
-        check_turn(rt, &mut machine, row);
+    for (a, carry, result, after) in rows {
+        for before in BEFORE {
+            if before[4] == *carry {
+                let [s, z, ac, p, _] = before;
+                let after = [s, z, ac, p, *after];
+                check_operation(rt, &mut machine, [*a, 0], before, *result, after);
+            }
+        }
     }
     Ok(())
 }
@@ -585,22 +548,15 @@ fn turns_at_the_edges(rt: HostRuntime) -> Result<(), Fail> {
     Ok(())
 }
 
-fn check_adjustment(rt: &impl Abort, machine: &mut Machine, row: &Adjustment) {
-    let (a, ac, carry, result, after) = *row;
-    for before in BEFORE {
-        if before[2] == ac && before[4] == carry {
-            run(rt, machine, a, 0, before);
-            assert_eq!(rt; machine.reg(Reg::A), result, "{a} {ac} {carry}");
-            assert_eq!(rt; flags(machine), after, "{a} {ac} {carry}");
-        }
-    }
-}
-
 #[test]
 fn adjustments_at_the_edges(rt: HostRuntime) -> Result<(), Fail> {
     let mut machine = loaded(rt.alloc(), 0, &[0x27])?;
-    for row in &DAA {
-        check_adjustment(&rt, &mut machine, row);
+    for (a, ac, carry, result, after) in &DAA {
+        for before in BEFORE {
+            if before[2] == *ac && before[4] == *carry {
+                check_operation(&rt, &mut machine, [*a, 0], before, *result, *after);
+            }
+        }
     }
     Ok(())
 }

@@ -1,5 +1,5 @@
 //! The worked examples of the 8080 manual, and short programs.
-use super::{flags, loaded};
+use super::{check_cells, check_flags, check_operation, check_regs, check_step, loaded, place};
 use sp_base::{Loc, Reg};
 use sp_machine::{Event, Machine};
 use std::test::Fail;
@@ -14,19 +14,16 @@ fn a_machine_keeps_its_parts(rt: HostRuntime) -> Result<(), Fail> {
     machine.set_cell(0xFFFF, 0xC9);
     let copy = machine.copy()?;
     machine.set_cell(0xFFFF, 1);
-    assert_eq!(rt; copy.reg(Reg::H), 7);
-    assert_eq!(rt; copy.flag(Loc::Ac), 1);
-    assert_eq!(rt; copy.flag(Loc::Cy), 0);
-    assert_eq!(rt; copy.sp(), 0xFFFF);
-    assert_eq!(rt; copy.pc(), 3);
-    assert_eq!(rt; copy.cell(0xFFFF), 0xC9);
-    assert_eq!(rt; copy.cell(0), 0);
+    check_regs(&rt, &copy, &[(Reg::H, 7)]);
+    check_flags(&rt, &copy, [0, 0, 1, 0, 0]);
+    check_cells(&rt, &copy, &[(0xFFFF, 0xC9), (0, 0)]);
+    assert_eq!(rt; place(&copy), (3, 0xFFFF));
     assert!(rt; !copy.halted());
     Ok(())
 }
 
 /// An operation's byte, then A, B, AC and CY before it, and A and the flags S, Z, AC, P and CY after it.
-const OPERATIONS: [(u8, [u8; 4], u8, [u8; 5]); 24] = [
+static OPERATIONS: [(u8, [u8; 4], u8, [u8; 5]); 24] = [
     // ADD and ADC B
     (0x80, [0x6C, 0x2E, 0, 0], 0x9A, [1, 0, 1, 1, 0]),
     (0x80, [0xFF, 0x01, 0, 1], 0x00, [0, 1, 1, 1, 1]),
@@ -62,18 +59,28 @@ const OPERATIONS: [(u8, [u8; 4], u8, [u8; 5]); 24] = [
 
 #[test]
 fn operations_set_a_and_the_flags(rt: HostRuntime) -> Result<(), Fail> {
-    for (code, [a, b, ac, cy], result, after) in OPERATIONS {
-        let mut machine = loaded(rt.alloc(), 0, &[code])?;
-        machine.set_reg(Reg::A, a);
-        machine.set_reg(Reg::B, b);
-        machine.set_flag(Loc::Ac, ac % 2);
-        machine.set_flag(Loc::Cy, cy % 2);
-        assert_eq!(rt; machine.step(0), Event::Plain);
-        assert_eq!(rt; machine.reg(Reg::A), result);
-        assert_eq!(rt; flags(&machine), after, "{code}");
-        assert_eq!(rt; machine.pc(), 1);
+    for (code, [a, b, ac, cy], result, after) in &OPERATIONS {
+        let mut machine = loaded(rt.alloc(), 0, &[*code])?;
+        let before = [0, 0, *ac, 0, *cy];
+        check_operation(&rt, &mut machine, [*a, *b], before, *result, *after);
     }
     Ok(())
+}
+
+/// A, AC and CY after DAA, from those before it.
+fn adjusted(a: u8, ac: u8, cy: u8) -> (u8, u8, u8) {
+    let (high, low) = (a >> 4, a & 15);
+    let corrects_low = low >= 10 || ac == 1;
+    let corrects_high = cy == 1 || high >= 10 || (high == 9 && low >= 10);
+    let mut sum = a;
+    if corrects_low {
+        sum = sum.wrapping_add(6);
+    }
+    if corrects_high {
+        sum = sum.wrapping_add(0x60);
+    }
+    let carries = corrects_low && low >= 10;
+    (sum, u8::from(carries), u8::from(corrects_high))
 }
 
 #[test]
@@ -88,20 +95,15 @@ fn daa_corrects_each_digit(rt: HostRuntime) -> Result<(), Fail> {
         machine.set_flag(Loc::Ac, ac);
         machine.set_flag(Loc::Cy, cy);
         let _ = machine.step(0);
-        let (high, low) = (a >> 4, a & 15);
-        let corrects_low = low >= 10 || ac == 1;
-        let corrects_high = cy == 1 || high >= 10 || (high == 9 && low >= 10);
-        let mut sum = a;
-        if corrects_low {
-            sum = sum.wrapping_add(6);
-        }
-        if corrects_high {
-            sum = sum.wrapping_add(0x60);
-        }
-        assert_eq!(rt; machine.reg(Reg::A), sum, "{case}");
-        assert_eq!(rt; machine.flag(Loc::Cy), u8::from(corrects_high), "{case}");
-        let carries = corrects_low && low >= 10;
-        assert_eq!(rt; machine.flag(Loc::Ac), u8::from(carries), "{case}");
+        assert_eq!(rt;
+            (
+                machine.reg(Reg::A),
+                machine.flag(Loc::Ac),
+                machine.flag(Loc::Cy)
+            ),
+            adjusted(a, ac, cy),
+            "{case}"
+        );
     }
     Ok(())
 }
@@ -115,20 +117,15 @@ fn the_stack_holds_words_low_byte_first(rt: HostRuntime) -> Result<(), Fail> {
     machine.set_flag(Loc::P, 1);
     machine.set_flag(Loc::Cy, 1);
     machine.set_sp(1);
-    let _ = machine.step(0);
-    assert_eq!(rt; machine.sp(), 0xFFFF);
-    assert_eq!(rt; machine.cell(0), 0x1F);
-    assert_eq!(rt; machine.cell(0xFFFF), 0x47);
+    check_step(&rt, &mut machine, 0x101, 0xFFFF);
+    check_cells(&rt, &machine, &[(0, 0x1F), (0xFFFF, 0x47)]);
     machine.set_reg(Reg::H, 0xAB);
     machine.set_reg(Reg::L, 0x94);
-    let _ = machine.step(0);
-    assert_eq!(rt; machine.sp(), 0xFFFF);
-    assert_eq!(rt; machine.reg(Reg::H), 0x1F);
-    assert_eq!(rt; machine.reg(Reg::L), 0x47);
-    let _ = machine.step(0);
-    assert_eq!(rt; machine.sp(), 1);
-    assert_eq!(rt; machine.reg(Reg::A), 0xAB);
-    assert_eq!(rt; flags(&machine), [1, 0, 1, 1, 0]);
+    check_step(&rt, &mut machine, 0x102, 0xFFFF);
+    check_regs(&rt, &machine, &[(Reg::H, 0x1F), (Reg::L, 0x47)]);
+    check_step(&rt, &mut machine, 0x103, 1);
+    check_regs(&rt, &machine, &[(Reg::A, 0xAB)]);
+    check_flags(&rt, &machine, [1, 0, 1, 1, 0]);
     Ok(())
 }
 
@@ -146,17 +143,18 @@ fn programs_go_on_where_they_are_sent(rt: HostRuntime) -> Result<(), Fail> {
     machine.set_cell(0x0010, 0x76);
     machine.set_flag(Loc::Z, 1);
     machine.set_sp(0x2400);
-    for pc in [0x0200, 0x0300, 0x0301, 0x0203, 0x0010] {
-        assert_eq!(rt; machine.step(0), Event::Plain);
-        assert_eq!(rt; machine.pc(), pc);
+    for (pc, sp) in [
+        (0x0200, 0x2400),
+        (0x0300, 0x23FE),
+        (0x0301, 0x23FE),
+        (0x0203, 0x2400),
+        (0x0010, 0x23FE),
+    ] {
+        check_step(&rt, &mut machine, pc, sp);
     }
-    assert_eq!(rt; machine.sp(), 0x23FE);
-    assert_eq!(rt; machine.cell(0x23FE), 0x04);
-    assert_eq!(rt; machine.cell(0x23FF), 0x02);
-    assert_eq!(rt; machine.step(0), Event::Halted);
-    assert!(rt; machine.halted());
-    assert_eq!(rt; machine.step(0), Event::Halted);
-    assert_eq!(rt; machine.pc(), 0x0010);
+    check_cells(&rt, &machine, &[(0x23FE, 0x04), (0x23FF, 0x02)]);
+    assert_eq!(rt; (machine.step(0), machine.halted()), (Event::Halted, true));
+    assert_eq!(rt; (machine.step(0), machine.pc()), (Event::Halted, 0x0010));
     Ok(())
 }
 
@@ -165,9 +163,8 @@ fn ports_and_unused_bytes_are_told(rt: HostRuntime) -> Result<(), Fail> {
     // IN 10H, OUT 20H, then a byte that begins no instruction
     let mut machine = loaded(rt.alloc(), 0, &[0xDB, 0x10, 0xD3, 0x20, 0xED])?;
     assert_eq!(rt; machine.step(0xFF), Event::In(0x10));
-    assert_eq!(rt; machine.reg(Reg::A), 0xFF);
+    check_regs(&rt, &machine, &[(Reg::A, 0xFF)]);
     assert_eq!(rt; machine.step(0), Event::Out(0x20, 0xFF));
-    assert_eq!(rt; machine.step(0), Event::Stuck(0xED));
-    assert_eq!(rt; machine.pc(), 4);
+    assert_eq!(rt; (machine.step(0), machine.pc()), (Event::Stuck(0xED), 4));
     Ok(())
 }

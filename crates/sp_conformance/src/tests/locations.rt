@@ -13,7 +13,7 @@ fn set_of(locs: &[Loc]) -> Locs {
 }
 
 /// Instructions with what they use and set.
-const ROWS: [(Instr, &[Loc], &[Loc]); 13] = [
+static ROWS: [(Instr, &[Loc], &[Loc]); 13] = [
     (
         Instr::Mov(Arg::M, Arg::Reg(Reg::B)),
         &[Loc::B, Loc::H, Loc::L],
@@ -63,10 +63,13 @@ const ROWS: [(Instr, &[Loc], &[Loc]); 13] = [
 
 #[test]
 fn instructions_use_and_set_locations(rt: HostRuntime) -> Result<(), Fail> {
-    for (i, used, written) in ROWS {
-        assert!(rt; valid(&i));
-        assert_eq!(rt; reads(&i), set_of(used));
-        assert_eq!(rt; writes(&i), set_of(written));
+    for (i, used, written) in &ROWS {
+        assert!(rt; valid(i));
+        assert_eq!(rt;
+            (reads(i), writes(i)),
+            (set_of(used), set_of(written)),
+            "{i:?}"
+        );
     }
     assert!(rt; set_of(&[Loc::A, Loc::Cy]).contains(Loc::Cy));
     assert!(rt; !set_of(&[Loc::A, Loc::Cy]).contains(Loc::C));

@@ -1,7 +1,7 @@
 //! The program status word on the stack: S Z 0 AC 0 P 1 CY. Flags stand in the order S, Z, AC, P, CY.
-use super::{flags, loaded, set_flags};
+use super::{check_cells, check_flags, check_regs, check_step, flags, loaded, set_flags};
 use sp_base::Reg;
-use sp_machine::{Event, Machine};
+use sp_machine::Machine;
 use std::process::Abort;
 use std::test::Fail;
 
@@ -52,11 +52,9 @@ fn push_psw_fixes_three_bits(rt: HostRuntime) -> Result<(), Fail> {
         machine.set_pc(0);
         machine.set_sp(0x2400);
         set_flags(&mut machine, *before);
-        assert_eq!(rt; machine.step(0), Event::Plain);
-        assert_eq!(rt; machine.sp(), 0x23FE);
-        assert_eq!(rt; machine.cell(0x23FF), 0xA5);
-        assert_eq!(rt; machine.cell(0x23FE), *byte, "{before:?}");
-        assert_eq!(rt; flags(&machine), *before, "{byte}");
+        check_step(&rt, &mut machine, 1, 0x23FE);
+        check_cells(&rt, &machine, &[(0x23FF, 0xA5), (0x23FE, *byte)]);
+        check_flags(&rt, &machine, *before);
     }
     Ok(())
 }
@@ -67,9 +65,8 @@ fn check_pop(rt: &impl Abort, machine: &mut Machine, byte: u8, after: [u8; 5]) {
         machine.set_pc(0);
         machine.set_sp(0x23FE);
         machine.set_cell(0x23FE, byte ^ difference);
-        assert_eq!(rt; machine.step(0), Event::Plain);
-        assert_eq!(rt; machine.sp(), 0x2400);
-        assert_eq!(rt; machine.reg(Reg::A), 0xA5);
+        check_step(rt, machine, 1, 0x2400);
+        check_regs(rt, machine, &[(Reg::A, 0xA5)]);
         assert_eq!(rt; flags(machine), after, "{byte} {difference}");
     }
 }

@@ -1,5 +1,5 @@
 //! Addresses are taken modulo 65,536: programs, words and the stack at the end of memory.
-use super::{flags, loaded, set_flags};
+use super::{check_cells, check_flags, check_regs, check_step, loaded, set_flags};
 use sp_base::Reg;
 use sp_machine::{Event, Machine};
 use std::alloc::Global;
@@ -29,8 +29,7 @@ static GOING_ON: [(u16, &[u8], u16); 13] = [
 fn the_program_counter_wraps(rt: HostRuntime) -> Result<(), Fail> {
     for (pc, bytes, after) in &GOING_ON {
         let mut machine = loaded(rt.alloc(), *pc, bytes)?;
-        assert_eq!(rt; machine.step(0), Event::Plain);
-        assert_eq!(rt; machine.pc(), *after, "{pc} {bytes:?}");
+        check_step(&rt, &mut machine, *after, 0);
     }
     Ok(())
 }
@@ -39,12 +38,11 @@ fn the_program_counter_wraps(rt: HostRuntime) -> Result<(), Fail> {
 fn operands_behind_the_last_address_are_read(rt: HostRuntime) -> Result<(), Fail> {
     // MVI A,77H and LXI B,1234H, each at FFFFH
     let mut machine = loaded(rt.alloc(), 0xFFFF, &[0x3E, 0x77])?;
-    let _ = machine.step(0);
+    check_step(&rt, &mut machine, 0x0001, 0);
     assert_eq!(rt; machine.reg(Reg::A), 0x77);
     let mut machine = loaded(rt.alloc(), 0xFFFF, &[0x01, 0x34, 0x12])?;
-    let _ = machine.step(0);
-    assert_eq!(rt; machine.reg(Reg::B), 0x12);
-    assert_eq!(rt; machine.reg(Reg::C), 0x34);
+    check_step(&rt, &mut machine, 0x0002, 0);
+    check_regs(&rt, &machine, &[(Reg::B, 0x12), (Reg::C, 0x34)]);
     Ok(())
 }
 
@@ -69,11 +67,8 @@ fn check_pushes(
         machine.set_reg(Reg::B, 0x12);
         machine.set_reg(Reg::C, 0x34);
         machine.set_sp(*sp);
-        assert_eq!(rt; machine.step(0), Event::Plain);
-        assert_eq!(rt; machine.cell(*high), 0x12, "{sp} {bytes:?}");
-        assert_eq!(rt; machine.cell(*low), 0x34, "{sp} {bytes:?}");
-        assert_eq!(rt; machine.sp(), *sp_after);
-        assert_eq!(rt; machine.pc(), after);
+        check_step(rt, &mut machine, after, *sp_after);
+        check_cells(rt, &machine, &[(*high, 0x12), (*low, 0x34)]);
     }
     Ok(())
 }
@@ -103,10 +98,8 @@ fn calls_at_the_last_addresses_return_to_the_first(rt: HostRuntime) -> Result<()
     for (pc, bytes, high, low) in &CALLS {
         let mut machine = loaded(rt.alloc(), *pc, bytes)?;
         machine.set_sp(0x2400);
-        assert_eq!(rt; machine.step(0), Event::Plain);
-        assert_eq!(rt; machine.cell(0x23FF), *high, "{pc} {bytes:?}");
-        assert_eq!(rt; machine.cell(0x23FE), *low, "{pc} {bytes:?}");
-        assert_eq!(rt; machine.sp(), 0x23FE);
+        assert_eq!(rt; (machine.step(0), machine.sp()), (Event::Plain, 0x23FE));
+        check_cells(&rt, &machine, &[(0x23FF, *high), (0x23FE, *low)]);
     }
     Ok(())
 }
@@ -134,11 +127,8 @@ fn with_word(alloc: Global, code: u8, row: &(u16, u16, u16, u16)) -> Result<Mach
 fn pop_wraps(rt: HostRuntime) -> Result<(), Fail> {
     for row in &POPPED {
         let mut machine = with_word(rt.alloc(), 0xC1, row)?;
-        assert_eq!(rt; machine.step(0), Event::Plain);
-        assert_eq!(rt; machine.reg(Reg::B), 0x12);
-        assert_eq!(rt; machine.reg(Reg::C), 0x34);
-        assert_eq!(rt; machine.sp(), row.3);
-        assert_eq!(rt; machine.pc(), 0x8001);
+        check_step(&rt, &mut machine, 0x8001, row.3);
+        check_regs(&rt, &machine, &[(Reg::B, 0x12), (Reg::C, 0x34)]);
     }
     Ok(())
 }
@@ -147,9 +137,7 @@ fn pop_wraps(rt: HostRuntime) -> Result<(), Fail> {
 fn ret_wraps(rt: HostRuntime) -> Result<(), Fail> {
     for row in &POPPED {
         let mut machine = with_word(rt.alloc(), 0xC9, row)?;
-        assert_eq!(rt; machine.step(0), Event::Plain);
-        assert_eq!(rt; machine.pc(), 0x1234);
-        assert_eq!(rt; machine.sp(), row.3);
+        check_step(&rt, &mut machine, 0x1234, row.3);
     }
     Ok(())
 }
@@ -159,12 +147,9 @@ fn xthl_wraps(rt: HostRuntime) -> Result<(), Fail> {
     for row in &POPPED {
         let (sp, low, high, _) = *row;
         let mut machine = with_word(rt.alloc(), 0xE3, row)?;
-        assert_eq!(rt; machine.step(0), Event::Plain);
-        assert_eq!(rt; machine.reg(Reg::H), 0x12);
-        assert_eq!(rt; machine.reg(Reg::L), 0x34);
-        assert_eq!(rt; machine.cell(low), 0x78);
-        assert_eq!(rt; machine.cell(high), 0x56);
-        assert_eq!(rt; machine.sp(), sp);
+        check_step(&rt, &mut machine, 0x8001, sp);
+        check_regs(&rt, &machine, &[(Reg::H, 0x12), (Reg::L, 0x34)]);
+        check_cells(&rt, &machine, &[(low, 0x78), (high, 0x56)]);
     }
     Ok(())
 }
@@ -176,15 +161,13 @@ fn words_at_the_last_address_end_at_the_first(rt: HostRuntime) -> Result<(), Fai
     let mut machine = loaded(rt.alloc(), 0x8000, &program)?;
     machine.set_reg(Reg::H, 0x56);
     machine.set_reg(Reg::L, 0x78);
-    assert_eq!(rt; machine.step(0), Event::Plain);
-    assert_eq!(rt; machine.cell(0xFFFF), 0x78);
-    assert_eq!(rt; machine.cell(0x0000), 0x56);
-    assert_eq!(rt; machine.cell(0x0001), 0x00);
+    check_step(&rt, &mut machine, 0x8003, 0);
+    let words = [(0xFFFF, 0x78), (0x0000, 0x56), (0x0001, 0x00)];
+    check_cells(&rt, &machine, &words);
     machine.set_cell(0xFFFF, 0x34);
     machine.set_cell(0x0000, 0x12);
-    assert_eq!(rt; machine.step(0), Event::Plain);
-    assert_eq!(rt; machine.reg(Reg::H), 0x12);
-    assert_eq!(rt; machine.reg(Reg::L), 0x34);
+    check_step(&rt, &mut machine, 0x8006, 0);
+    check_regs(&rt, &machine, &[(Reg::H, 0x12), (Reg::L, 0x34)]);
     Ok(())
 }
 
@@ -202,16 +185,10 @@ fn with_pairs(alloc: Global, code: u8, high: u8, low: u8) -> Result<Machine, Fai
     Ok(machine)
 }
 
-/// The bytes of BC, DE and HL.
-fn pairs(machine: &Machine) -> [u8; 6] {
-    [
-        machine.reg(Reg::B),
-        machine.reg(Reg::C),
-        machine.reg(Reg::D),
-        machine.reg(Reg::E),
-        machine.reg(Reg::H),
-        machine.reg(Reg::L),
-    ]
+/// BC, DE and HL have these bytes.
+fn check_pairs(rt: &impl Abort, machine: &Machine, [b, c, d, e, h, l]: [u8; 6]) {
+    check_regs(rt, machine, &[(Reg::B, b), (Reg::C, c), (Reg::D, d)]);
+    check_regs(rt, machine, &[(Reg::E, e), (Reg::H, h), (Reg::L, l)]);
 }
 
 /// An instruction, the bytes of each pair before, those of BC, DE and HL after, and SP after.
@@ -291,10 +268,9 @@ static COUNTS: [(u8, [u8; 2], [u8; 6], u16); 11] = [
 fn counts_of_pairs_wrap_and_keep_the_flags(rt: HostRuntime) -> Result<(), Fail> {
     for (code, [high, low], after, sp) in &COUNTS {
         let mut machine = with_pairs(rt.alloc(), *code, *high, *low)?;
-        assert_eq!(rt; machine.step(0), Event::Plain);
-        assert_eq!(rt; pairs(&machine), *after, "{code}");
-        assert_eq!(rt; machine.sp(), *sp, "{code}");
-        assert_eq!(rt; flags(&machine), [1, 1, 1, 1, 1], "{code}");
+        check_step(&rt, &mut machine, 0x8001, *sp);
+        check_pairs(&rt, &machine, *after);
+        check_flags(&rt, &machine, [1, 1, 1, 1, 1]);
     }
     Ok(())
 }
@@ -325,9 +301,9 @@ fn check_sum(
     machine.set_reg(Reg::B, b);
     machine.set_reg(Reg::C, c);
     set_flags(machine, before);
-    assert_eq!(rt; machine.step(0), Event::Plain);
-    assert_eq!(rt; pairs(machine), [b, c, 0, 0, high, low]);
-    assert_eq!(rt; flags(machine), [s, z, ac, p, carry]);
+    check_step(rt, machine, 0x8001, 0);
+    check_pairs(rt, machine, [b, c, 0, 0, high, low]);
+    check_flags(rt, machine, [s, z, ac, p, carry]);
 }
 
 #[test]
@@ -344,10 +320,9 @@ fn dad_carries_out_of_bit_15(rt: HostRuntime) -> Result<(), Fail> {
 fn dad_h_and_dad_sp_double_a_word(rt: HostRuntime) -> Result<(), Fail> {
     for code in [0x29, 0x39] {
         let mut machine = with_pairs(rt.alloc(), code, 0x80, 0x01)?;
-        assert_eq!(rt; machine.step(0), Event::Plain);
-        assert_eq!(rt; pairs(&machine), [0x80, 0x01, 0x80, 0x01, 0x00, 0x02]);
-        assert_eq!(rt; machine.sp(), 0x8001);
-        assert_eq!(rt; flags(&machine), [1, 1, 1, 1, 1]);
+        check_step(&rt, &mut machine, 0x8001, 0x8001);
+        check_pairs(&rt, &machine, [0x80, 0x01, 0x80, 0x01, 0x00, 0x02]);
+        check_flags(&rt, &machine, [1, 1, 1, 1, 1]);
     }
     Ok(())
 }
@@ -360,20 +335,20 @@ fn m_is_the_last_cell_at_ffffh(rt: HostRuntime) -> Result<(), Fail> {
     machine.set_reg(Reg::H, 0xFF);
     machine.set_reg(Reg::L, 0xFF);
     machine.set_reg(Reg::A, 0x41);
-    // the cell and A after each
-    for (cell, a) in [
-        (0x41, 0x41),
-        (0x42, 0x41),
-        (0x42, 0x83),
-        (0x09, 0x83),
-        (0x08, 0x83),
-        (0x08, 0x83),
+    // the program counter, the cell and A after each
+    for (pc, cell, a) in [
+        (0x8001, 0x41, 0x41),
+        (0x8002, 0x42, 0x41),
+        (0x8003, 0x42, 0x83),
+        (0x8005, 0x09, 0x83),
+        (0x8006, 0x08, 0x83),
+        (0x8007, 0x08, 0x83),
     ] {
-        assert_eq!(rt; machine.step(0), Event::Plain);
-        assert_eq!(rt; machine.cell(0xFFFF), cell);
-        assert_eq!(rt; machine.reg(Reg::A), a);
+        check_step(&rt, &mut machine, pc, 0);
+        check_cells(&rt, &machine, &[(0xFFFF, cell)]);
+        check_regs(&rt, &machine, &[(Reg::A, a)]);
     }
-    assert_eq!(rt; machine.reg(Reg::B), 0x08);
-    assert_eq!(rt; machine.cell(0x0000), 0x00);
+    check_regs(&rt, &machine, &[(Reg::B, 0x08)]);
+    check_cells(&rt, &machine, &[(0x0000, 0x00)]);
     Ok(())
 }
