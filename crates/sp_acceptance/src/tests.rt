@@ -71,6 +71,24 @@ fn files_of(alloc: Global, source: &str, scripts: &str) -> Result<MemFiles, Fail
     Ok(files)
 }
 
+/// An image alone.
+fn image_of(alloc: Global, image: &str) -> Result<MemFiles, Fail> {
+    let mut files = MemFiles::new(alloc);
+    files.add("IMG", image.as_bytes())?;
+    Ok(files)
+}
+
+/// Carries out a command line of these words. No other test calls `space`, since what it ensures is long.
+fn carry_out_words(
+    alloc: Global,
+    words: &[&str],
+    files: &mut MemFiles,
+    out: &mut MemSink,
+) -> Result<Status, Fail> {
+    let words = words_of(alloc, words)?;
+    Ok(space(alloc, &words, files, out))
+}
+
 /// Carries out a command line, whose words single blanks divide.
 fn carry_out(
     alloc: Global,
@@ -79,13 +97,30 @@ fn carry_out(
     out: &mut MemSink,
 ) -> Result<Status, Fail> {
     let words = line.split(' ').collect::<Vec<&str>>(alloc)?;
-    let words = words_of(alloc, &words)?;
-    Ok(space(alloc, &words, files, out))
+    carry_out_words(alloc, &words, files, out)
 }
 
 fn verify(alloc: Global, files: &mut MemFiles, out: &mut MemSink) -> Result<Status, Fail> {
-    let words = words_of(alloc, &["verify", "SRC", "SCRIPTS", "IMG"])?;
-    Ok(space(alloc, &words, files, out))
+    carry_out_words(alloc, &["verify", "SRC", "SCRIPTS", "IMG"], files, out)
+}
+
+/// A command ended with this status, in a case that the message names.
+fn check_status(rt: &impl Abort, case: &str, status: Status, expected: Status) {
+    assert_eq!(rt; status, expected, "{case}");
+}
+
+/// The sink was put this text, in a case that the message names.
+fn check_put(rt: &impl Abort, case: &str, out: &MemSink, text: &str) {
+    assert_eq!(rt; out.taken(), text.as_bytes(), "{case}");
+}
+
+/// A file holds this text, in a case that the message names.
+fn check_file(rt: &impl Abort, case: &str, files: &MemFiles, name: &str, text: &str) {
+    assert_eq!(rt;
+        files.contents(name),
+        Some(text.as_bytes()),
+        "{name}: {case}"
+    );
 }
 
 /// Verifies a source without scripts, and compares what IMG holds afterwards and what was put.
@@ -99,11 +134,11 @@ fn check_source(
 ) -> Result<(), Fail> {
     let mut files = files_of(alloc, source, "")?;
     let mut out = MemSink::new(alloc);
-    assert_eq!(rt; verify(alloc, &mut files, &mut out)?, status, "{source}");
-    assert_eq!(rt; out.taken(), text.as_bytes(), "{source}");
-    assert_eq!(rt; files.contents("IMG"), Some(image.as_bytes()), "{source}");
-    assert_eq!(rt; files.contents("SRC"), Some(source.as_bytes()));
-    assert_eq!(rt; files.contents("SCRIPTS"), Some(b"".as_slice()));
-    assert_eq!(rt; files.contents("OTHER"), Some(b"kept".as_slice()));
+    check_status(rt, source, verify(alloc, &mut files, &mut out)?, status);
+    check_put(rt, source, &out, text);
+    check_file(rt, source, &files, "IMG", image);
+    check_file(rt, source, &files, "SRC", source);
+    check_file(rt, source, &files, "SCRIPTS", "");
+    check_file(rt, source, &files, "OTHER", "kept");
     Ok(())
 }

@@ -1,5 +1,5 @@
 //! `asm`: images, reports, refusals of each kind, and faults.
-use super::{END, carry_out, files_of};
+use super::{END, carry_out, check_file, check_put, check_status, files_of};
 use sp_base::MemSink;
 use sp_cli::Status;
 use std::alloc::Global;
@@ -11,7 +11,7 @@ const CLEAR: &str =
     ";# stack 2300H, 23FFH\n;# bytes BUF, 2000H, 16\n;# routine CLEAR\nCLEAR: LXI H,2000H\n       MVI B,16\n       XRA A\n;# assert A = 0 and 1 <= B and B <= 16\nLOOP:  MOV M,A\n       INX H\n       DCR B\n       JNZ LOOP\n       RET\n;# end\n";
 
 /// Sources with the records of their image, and their report.
-const ASSEMBLED: [(&str, &str, &str); 6] = [
+static ASSEMBLED: [(&str, &str, &str); 6] = [
     (
         CLEAR,
         ":0D0000002100200610AF772305C20600C9BD\n",
@@ -37,7 +37,7 @@ const ASSEMBLED: [(&str, &str, &str); 6] = [
 ];
 
 /// Sources that are refused, and the line of the refusal.
-const REFUSED: [(&str, &str); 13] = [
+static REFUSED: [(&str, &str); 13] = [
     ("ORG 0FFFFH\nMVI A,1\n", "refused Asm 2 PastEnd\n"),
     ("DB 256\n", "refused Asm 1 Range\n"),
     ("NOP\nNOP\nNOP #\n", "refused Text 3 BadByte\n"),
@@ -64,22 +64,19 @@ fn check_asm(
 ) -> Result<(), Fail> {
     let mut files = files_of(alloc, source, "")?;
     let mut out = MemSink::new(alloc);
-    assert_eq!(rt;
-        carry_out(alloc, "asm SRC IMG", &mut files, &mut out)?,
-        status,
-        "{text}"
-    );
-    assert_eq!(rt; out.taken(), text.as_bytes(), "{text}");
-    assert_eq!(rt; files.contents("IMG"), Some(image.as_bytes()), "{text}");
-    assert_eq!(rt; files.contents("SRC"), Some(source.as_bytes()));
-    assert_eq!(rt; files.contents("OTHER"), Some(b"kept".as_slice()));
+    let ended = carry_out(alloc, "asm SRC IMG", &mut files, &mut out)?;
+    check_status(rt, text, ended, status);
+    check_put(rt, text, &out, text);
+    check_file(rt, text, &files, "IMG", image);
+    check_file(rt, text, &files, "SRC", source);
+    check_file(rt, text, &files, "OTHER", "kept");
     Ok(())
 }
 
 #[test]
 fn a_source_is_assembled(rt: HostRuntime) -> Result<(), Fail> {
     let alloc = rt.alloc();
-    for (source, records, report) in ASSEMBLED {
+    for (source, records, report) in &ASSEMBLED {
         let image = format!(in alloc; "{records}{END}")?;
         check_asm(&rt, alloc, source, Status::Done, &image, report)?;
     }
@@ -89,9 +86,15 @@ fn a_source_is_assembled(rt: HostRuntime) -> Result<(), Fail> {
 #[test]
 fn a_source_is_refused_at_its_line(rt: HostRuntime) -> Result<(), Fail> {
     let alloc = rt.alloc();
-    for (source, text) in REFUSED {
+    for (source, text) in &REFUSED {
         check_asm(&rt, alloc, source, Status::Refused, "old", text)?;
     }
+    Ok(())
+}
+
+#[test]
+fn a_source_past_a_limit_is_refused(rt: HostRuntime) -> Result<(), Fail> {
+    let alloc = rt.alloc();
     let long = " ".repeat(alloc, 4097)?;
     check_asm(
         &rt,
@@ -129,22 +132,17 @@ fn an_image_can_take_the_place_of_its_source(rt: HostRuntime) -> Result<(), Fail
     let mut files = files_of(alloc, "DB -1\n", "")?;
     let mut out = MemSink::new(alloc);
     for status in [Status::Done, Status::Refused] {
-        assert_eq!(rt;
-            carry_out(alloc, "asm SRC SRC", &mut files, &mut out)?,
-            status
-        );
-        assert_eq!(rt;
-            files.contents("SRC"),
-            Some(b":01000000FF00\n:00000001FF\n".as_slice())
-        );
+        let ended = carry_out(alloc, "asm SRC SRC", &mut files, &mut out)?;
+        check_status(&rt, "", ended, status);
+        check_file(&rt, "", &files, "SRC", ":01000000FF00\n:00000001FF\n");
     }
-    assert_eq!(rt; files.contents("IMG"), Some(b"old".as_slice()));
+    check_file(&rt, "", &files, "IMG", "old");
     Ok(())
 }
 
 /// The calls of the files and of the sink that fail, with the bytes that each keeps; and the status, what IMG holds
 /// afterwards and what was put.
-const FAULTS: [(u64, u64, usize, Status, &str, &str); 7] = [
+static FAULTS: [(u64, u64, usize, Status, &str, &str); 7] = [
     (1, 1, 9, Status::ReadFault, "old", ""),
     (2, 1, 0, Status::WriteFault, "", ""),
     (2, 1, 10, Status::WriteFault, ":01000000F", ""),
@@ -185,23 +183,16 @@ const FAULTS: [(u64, u64, usize, Status, &str, &str); 7] = [
 #[test]
 fn each_call_of_asm_can_fail(rt: HostRuntime) -> Result<(), Fail> {
     let alloc = rt.alloc();
-    for (call, put, kept, status, image, text) in FAULTS {
+    for (call, put, kept, status, image, text) in &FAULTS {
         let mut files = files_of(alloc, "DB -1\n", "")?;
-        files.fail(call, kept)?;
+        files.fail(*call, *kept)?;
         let mut out = MemSink::new(alloc);
-        out.fail(put, kept)?;
-        assert_eq!(rt;
-            carry_out(alloc, "asm SRC IMG", &mut files, &mut out)?,
-            status,
-            "{call} {kept}"
-        );
-        assert_eq!(rt;
-            files.contents("IMG"),
-            Some(image.as_bytes()),
-            "{call} {kept}"
-        );
-        assert_eq!(rt; out.taken(), text.as_bytes(), "{call} {kept}");
-        assert_eq!(rt; files.contents("SRC"), Some(b"DB -1\n".as_slice()));
+        out.fail(*put, *kept)?;
+        let ended = carry_out(alloc, "asm SRC IMG", &mut files, &mut out)?;
+        assert_eq!(rt; ended, *status, "{call} {kept}");
+        check_file(&rt, text, &files, "IMG", image);
+        check_put(&rt, image, &out, text);
+        check_file(&rt, text, &files, "SRC", "DB -1\n");
     }
     Ok(())
 }

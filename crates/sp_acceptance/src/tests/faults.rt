@@ -1,7 +1,10 @@
 //! Faults of the files and of the sink, at each call and with each number of bytes kept.
-use super::{FIVE_IMAGE, OPEN, REPORT, files_of, five, source_with, verify, words_of};
+use super::{
+    FIVE_IMAGE, OPEN, REPORT, carry_out_words, check_file, check_put, check_status, files_of, five,
+    source_with, verify,
+};
 use sp_base::MemSink;
-use sp_cli::{Status, space};
+use sp_cli::Status;
 use std::alloc::Global;
 use std::process::Abort;
 use std::test::Fail;
@@ -38,12 +41,16 @@ fn check_fault(
     for (put, kept) in fault.puts {
         out.fail(*put, *kept)?;
     }
-    assert_eq!(rt; verify(alloc, &mut files, &mut out)?, status);
-    assert_eq!(rt; files.contents("IMG"), Some(image));
-    assert_eq!(rt; out.taken(), taken);
-    assert_eq!(rt; files.contents("SRC"), Some(fault.source.as_bytes()));
-    assert_eq!(rt; files.contents("SCRIPTS"), Some(b"".as_slice()));
-    assert_eq!(rt; files.contents("OTHER"), Some(b"kept".as_slice()));
+    check_status(
+        rt,
+        fault.source,
+        verify(alloc, &mut files, &mut out)?,
+        status,
+    );
+    assert_eq!(rt; (files.contents("IMG"), out.taken()), (Some(image), taken));
+    check_file(rt, "", &files, "SRC", fault.source);
+    check_file(rt, "", &files, "SCRIPTS", "");
+    check_file(rt, "", &files, "OTHER", "kept");
     Ok(())
 }
 
@@ -143,21 +150,18 @@ fn a_fault_comes_before_what_the_file_would_say(rt: HostRuntime) -> Result<(), F
         (["SRC", "NONE"], 3, Status::Refused),
     ];
     for ([source, scripts], call, status) in names {
-        let words = words_of(alloc, &["verify", source, scripts, "IMG"])?;
+        let words = ["verify", source, scripts, "IMG"];
         let mut files = files_of(alloc, &five(alloc)?, "")?;
         files.fail(call, 0)?;
         let mut out = MemSink::new(alloc);
-        assert_eq!(rt;
-            space(alloc, &words, &mut files, &mut out),
-            status,
-            "{call}"
-        );
+        let ended = carry_out_words(alloc, &words, &mut files, &mut out)?;
+        check_status(&rt, source, ended, status);
         assert_eq!(rt;
             out.taken().is_empty(),
             status == Status::ReadFault,
             "{call}"
         );
-        assert_eq!(rt; files.contents("IMG"), Some(b"old".as_slice()), "{call}");
+        check_file(&rt, source, &files, "IMG", "old");
     }
     Ok(())
 }
@@ -179,28 +183,25 @@ fn calls_are_counted_from_one_command_to_the_next(rt: HostRuntime) -> Result<(),
     ];
     let images = [FIVE_IMAGE, FIVE_IMAGE, ":030000003", FIVE_IMAGE, FIVE_IMAGE];
     for (status, image) in statuses.into_iter().zip(images) {
-        assert_eq!(rt; verify(alloc, &mut files, &mut out)?, status);
-        assert_eq!(rt; files.contents("IMG"), Some(image.as_bytes()));
+        check_status(&rt, image, verify(alloc, &mut files, &mut out)?, status);
+        check_file(&rt, "", &files, "IMG", image);
     }
     let taken = format!(in alloc; "{REPORT}acce{REPORT}")?;
-    assert_eq!(rt; out.taken(), taken.as_bytes());
+    check_put(&rt, "", &out, &taken);
     Ok(())
 }
 
 #[test]
 fn a_failing_put_leaves_a_front_of_the_usage_line(rt: HostRuntime) -> Result<(), Fail> {
     let alloc = rt.alloc();
-    let words = words_of(alloc, &["verify"])?;
     for (kept, taken) in [(0, ""), (1, "u"), (7, "usage: "), (16, "usage: space8080")] {
         let mut files = files_of(alloc, &five(alloc)?, "")?;
         let mut out = MemSink::new(alloc);
         out.fail(1, kept)?;
-        assert_eq!(rt;
-            space(alloc, &words, &mut files, &mut out),
-            Status::SinkFault
-        );
-        assert_eq!(rt; out.taken(), taken.as_bytes());
-        assert_eq!(rt; files.contents("IMG"), Some(b"old".as_slice()));
+        let ended = carry_out_words(alloc, &["verify"], &mut files, &mut out)?;
+        check_status(&rt, taken, ended, Status::SinkFault);
+        check_put(&rt, taken, &out, taken);
+        check_file(&rt, taken, &files, "IMG", "old");
     }
     Ok(())
 }

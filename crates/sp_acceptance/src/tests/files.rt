@@ -1,10 +1,10 @@
 //! Files that are not there or too large, in the order in which they are read, and files under the same name.
 use super::{
-    FIVE_IMAGE, NOT_BUILT, OPEN, REPORT, carry_out, check_source, five, source_with, verify,
-    words_of,
+    FIVE_IMAGE, NOT_BUILT, OPEN, REPORT, carry_out, carry_out_words, check_file, check_put,
+    check_source, check_status, five, image_of, source_with, verify,
 };
 use sp_base::{MemFiles, MemSink};
-use sp_cli::{Status, space};
+use sp_cli::Status;
 use std::alloc::Global;
 use std::process::Abort;
 use std::test::Fail;
@@ -50,13 +50,14 @@ fn check_refused(
     add_given(alloc, &mut files, "SCRIPTS", scripts)?;
     files.add("IMG", b"old")?;
     let mut out = MemSink::new(alloc);
-    assert_eq!(rt;
+    check_status(
+        rt,
+        text,
         verify(alloc, &mut files, &mut out)?,
         Status::Refused,
-        "{text}"
     );
-    assert_eq!(rt; out.taken(), text.as_bytes(), "{text}");
-    assert_eq!(rt; files.contents("IMG"), Some(b"old".as_slice()), "{text}");
+    check_put(rt, text, &out, text);
+    check_file(rt, text, &files, "IMG", "old");
     Ok(())
 }
 
@@ -117,16 +118,18 @@ fn an_image_is_written_only_where_the_source_is_accepted(rt: HostRuntime) -> Res
 fn an_image_can_take_the_place_of_an_input(rt: HostRuntime) -> Result<(), Fail> {
     let alloc = rt.alloc();
     for name in ["SRC", "SCRIPTS"] {
-        let words = words_of(alloc, &["verify", "SRC", "SCRIPTS", name])?;
+        let words = ["verify", "SRC", "SCRIPTS", name];
         let mut files = MemFiles::new(alloc);
         add_given(alloc, &mut files, "SRC", Given::Five)?;
         files.add("SCRIPTS", b"")?;
         let mut out = MemSink::new(alloc);
-        assert_eq!(rt; space(alloc, &words, &mut files, &mut out), Status::Done);
-        assert_eq!(rt; files.contents(name), Some(FIVE_IMAGE.as_bytes()));
-        assert_eq!(rt; out.taken(), REPORT.as_bytes());
+        let ended = carry_out_words(alloc, &words, &mut files, &mut out)?;
+        check_status(&rt, name, ended, Status::Done);
+        check_file(&rt, "", &files, name, FIVE_IMAGE);
+        check_put(&rt, name, &out, REPORT);
         // The input is what its file held then, so that what stands there now is no source, or a script.
-        assert_eq!(rt; space(alloc, &words, &mut files, &mut out), Status::Refused);
+        let ended = carry_out_words(alloc, &words, &mut files, &mut out)?;
+        check_status(&rt, name, ended, Status::Refused);
     }
     Ok(())
 }
@@ -140,16 +143,12 @@ fn a_file_that_is_not_there_is_missing(rt: HostRuntime) -> Result<(), Fail> {
         ("run NONE --steps 0", "refused Missing image\n"),
     ];
     for (line, text) in cases {
-        let mut files = MemFiles::new(alloc);
-        files.add("IMG", b"old")?;
+        let mut files = image_of(alloc, "old")?;
         let mut out = MemSink::new(alloc);
-        assert_eq!(rt;
-            carry_out(alloc, line, &mut files, &mut out)?,
-            Status::Refused,
-            "{line}"
-        );
-        assert_eq!(rt; out.taken(), text.as_bytes(), "{line}");
-        assert_eq!(rt; files.contents("IMG"), Some(b"old".as_slice()), "{line}");
+        let ended = carry_out(alloc, line, &mut files, &mut out)?;
+        check_status(&rt, line, ended, Status::Refused);
+        check_put(&rt, line, &out, text);
+        check_file(&rt, line, &files, "IMG", "old");
     }
     Ok(())
 }

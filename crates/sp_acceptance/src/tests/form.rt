@@ -6,7 +6,7 @@ use std::process::Abort;
 use std::test::Fail;
 
 /// Lines of the accepted source with others in their place, that say the same.
-const SAME: [(usize, usize, &str); 33] = [
+static SAME: [(usize, usize, &str); 33] = [
     (1, 1, ";# stack 2300H,23FFH\n"),
     (1, 1, "\t ;#\tstack   2300H\t,  23FFH \t\n"),
     (2, 2, "  ;#\t\troutine  FIVE\t\n"),
@@ -45,15 +45,15 @@ const SAME: [(usize, usize, &str); 33] = [
 #[test]
 fn blanks_and_zeros_are_free(rt: HostRuntime) -> Result<(), Fail> {
     let alloc = rt.alloc();
-    for (first, last, text) in SAME {
-        let source = source_with(alloc, first, last, text)?;
+    for (first, last, text) in &SAME {
+        let source = source_with(alloc, *first, *last, text)?;
         check_source(&rt, alloc, &source, Status::Done, FIVE_IMAGE, REPORT)?;
     }
     Ok(())
 }
 
 /// Lines of the annotations with others in their place, that break the form.
-const BROKEN_ANNOTATIONS: [(usize, usize, &str); 71] = [
+static BROKEN_ANNOTATIONS: [(usize, usize, &str); 71] = [
     (1, 7, ""),
     (1, 7, "\n"),
     (1, 1, ""),
@@ -128,7 +128,7 @@ const BROKEN_ANNOTATIONS: [(usize, usize, &str); 71] = [
 ];
 
 /// Lines of the program and the last line with others in their place, that break the form.
-const BROKEN_PROGRAMS: [(usize, usize, &str); 63] = [
+static BROKEN_PROGRAMS: [(usize, usize, &str); 63] = [
     (5, 5, ""),
     (5, 5, "MVI A,5\n"),
     (5, 5, "FIVE MVI A,5\n"),
@@ -205,7 +205,7 @@ fn a_broken_rule_is_not_built(rt: HostRuntime) -> Result<(), Fail> {
 }
 
 /// Lines of the accepted source with others in their place, that don't meet the annotations.
-const UNMET: [(usize, usize, &str); 21] = [
+static UNMET: [(usize, usize, &str); 21] = [
     (3, 3, ";# post A = 6\n"),
     (3, 3, ";# post A = 0\n"),
     (3, 3, ";# post A = 255\n"),
@@ -232,15 +232,15 @@ const UNMET: [(usize, usize, &str); 21] = [
 #[test]
 fn unmet_annotations_are_an_open_condition(rt: HostRuntime) -> Result<(), Fail> {
     let alloc = rt.alloc();
-    for (first, last, text) in UNMET {
-        let source = source_with(alloc, first, last, text)?;
+    for (first, last, text) in &UNMET {
+        let source = source_with(alloc, *first, *last, text)?;
         check_source(&rt, alloc, &source, Status::Refused, "old", OPEN)?;
     }
     Ok(())
 }
 
 /// Lines of the accepted source with others in their place, and the records of their image before the last.
-const PROGRAMS: [(usize, usize, &str, &str); 14] = [
+static PROGRAMS: [(usize, usize, &str, &str); 14] = [
     (5, 5, "FIVE: MVI A,6\nMVI A,5\n", ":050000003E063E05C9AB\n"),
     (5, 5, "FIVE: MVI A,5\nMOV A,A\n", ":040000003E057FC971\n"),
     (
@@ -315,8 +315,8 @@ const PROGRAMS: [(usize, usize, &str, &str); 14] = [
 #[test]
 fn an_accepted_program_is_written_as_its_codes(rt: HostRuntime) -> Result<(), Fail> {
     let alloc = rt.alloc();
-    for (first, last, text, records) in PROGRAMS {
-        let source = source_with(alloc, first, last, text)?;
+    for (first, last, text, records) in &PROGRAMS {
+        let source = source_with(alloc, *first, *last, text)?;
         let image = format!(in alloc; "{records}:00000001FF\n")?;
         check_source(&rt, alloc, &source, Status::Done, &image, REPORT)?;
     }
@@ -384,7 +384,7 @@ fn check_name(rt: &impl Abort, alloc: Global, name: &str) -> Result<(), Fail> {
 }
 
 /// Words that are no name: too short or too long, with another letter, or with a meaning of their own.
-const NO_NAMES: [&str; 33] = [
+static NO_NAMES: [&str; 33] = [
     "FIV",
     "F",
     "A",
@@ -438,7 +438,7 @@ fn a_name_has_4_to_31_letters_and_no_other_meaning(rt: HostRuntime) -> Result<()
     for name in names {
         check_name(&rt, alloc, name)?;
     }
-    for name in NO_NAMES {
+    for name in &NO_NAMES {
         let source = named(alloc, name, "5")?;
         check_source(&rt, alloc, &source, Status::Refused, "old", NOT_BUILT)?;
     }

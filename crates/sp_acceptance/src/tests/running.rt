@@ -1,6 +1,6 @@
 //! `run`: texts of runs, refusals of each kind, and faults.
-use super::carry_out;
-use sp_base::{MemFiles, MemSink};
+use super::{carry_out, check_file, check_put, check_status, image_of};
+use sp_base::MemSink;
 use sp_cli::Status;
 use std::alloc::Global;
 use std::process::Abort;
@@ -11,7 +11,7 @@ const RETURNED: &str =
     "A=05 B=00 C=00 D=00 E=00 H=00 L=00 S=0 Z=0 AC=0 P=0 CY=0 SP=0002 PC=053E steps=2 running\n";
 
 /// Texts of images with option words, and the text of their run.
-const RAN: [(&str, &str, &str); 9] = [
+static RAN: [(&str, &str, &str); 9] = [
     (
         ":0100000008F7\n:00000001FF\n",
         "",
@@ -52,7 +52,7 @@ const RAN: [(&str, &str, &str); 9] = [
 ];
 
 /// Texts that are refused, and the line of the refusal.
-const REFUSED: [(&str, &str); 8] = [
+static REFUSED: [(&str, &str); 8] = [
     (":0100000008F7\n", "refused Image NoEnd\n"),
     (":0100000008F7", "refused Image NoEnd\n"),
     ("", "refused Image NoEnd\n"),
@@ -75,24 +75,20 @@ fn check_run(
     status: Status,
     text: &str,
 ) -> Result<(), Fail> {
-    let mut files = MemFiles::new(alloc);
-    files.add("IMG", image.as_bytes())?;
+    let mut files = image_of(alloc, image)?;
     let mut out = MemSink::new(alloc);
     let line = format!(in alloc; "run IMG{options}")?;
-    assert_eq!(rt;
-        carry_out(alloc, &line, &mut files, &mut out)?,
-        status,
-        "{text}"
-    );
-    assert_eq!(rt; out.taken(), text.as_bytes(), "{text}");
-    assert_eq!(rt; files.contents("IMG"), Some(image.as_bytes()));
+    let ended = carry_out(alloc, &line, &mut files, &mut out)?;
+    check_status(rt, text, ended, status);
+    check_put(rt, text, &out, text);
+    check_file(rt, text, &files, "IMG", image);
     Ok(())
 }
 
 #[test]
 fn an_image_is_run_under_its_options(rt: HostRuntime) -> Result<(), Fail> {
     let alloc = rt.alloc();
-    for (image, options, text) in RAN {
+    for (image, options, text) in &RAN {
         check_run(&rt, alloc, image, options, Status::Done, text)?;
     }
     Ok(())
@@ -101,9 +97,15 @@ fn an_image_is_run_under_its_options(rt: HostRuntime) -> Result<(), Fail> {
 #[test]
 fn a_text_that_is_no_image_is_refused(rt: HostRuntime) -> Result<(), Fail> {
     let alloc = rt.alloc();
-    for (image, text) in REFUSED {
+    for (image, text) in &REFUSED {
         check_run(&rt, alloc, image, "", Status::Refused, text)?;
     }
+    Ok(())
+}
+
+#[test]
+fn a_text_past_the_limit_is_refused(rt: HostRuntime) -> Result<(), Fail> {
+    let alloc = rt.alloc();
     let large = "\n".repeat(alloc, 1_048_577)?;
     check_run(
         &rt,
@@ -116,7 +118,7 @@ fn a_text_that_is_no_image_is_refused(rt: HostRuntime) -> Result<(), Fail> {
 }
 
 /// The calls of the files and of the sink that fail, with the bytes that each keeps; and the status and what was put.
-const FAULTS: [(u64, u64, usize, Status, &str); 5] = [
+static FAULTS: [(u64, u64, usize, Status, &str); 5] = [
     (1, 1, 9, Status::ReadFault, ""),
     (2, 1, 0, Status::SinkFault, ""),
     (2, 1, 10, Status::SinkFault, "A=05 B=00 "),
@@ -127,19 +129,14 @@ const FAULTS: [(u64, u64, usize, Status, &str); 5] = [
 #[test]
 fn each_call_of_run_can_fail(rt: HostRuntime) -> Result<(), Fail> {
     let alloc = rt.alloc();
-    for (call, put, kept, status, text) in FAULTS {
-        let mut files = MemFiles::new(alloc);
-        files.add("IMG", b":030000003E05C9F1\n:00000001FF\n")?;
-        files.fail(call, kept)?;
+    for (call, put, kept, status, text) in &FAULTS {
+        let mut files = image_of(alloc, ":030000003E05C9F1\n:00000001FF\n")?;
+        files.fail(*call, *kept)?;
         let mut out = MemSink::new(alloc);
-        out.fail(put, kept)?;
-        let line = "run IMG --steps 2";
-        assert_eq!(rt;
-            carry_out(alloc, line, &mut files, &mut out)?,
-            status,
-            "{call} {kept}"
-        );
-        assert_eq!(rt; out.taken(), text.as_bytes(), "{call} {kept}");
+        out.fail(*put, *kept)?;
+        let ended = carry_out(alloc, "run IMG --steps 2", &mut files, &mut out)?;
+        assert_eq!(rt; ended, *status, "{call} {kept}");
+        check_put(&rt, text, &out, text);
     }
     Ok(())
 }

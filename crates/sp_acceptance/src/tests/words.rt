@@ -1,14 +1,14 @@
 //! Words that are in no form, and the numbers of statuses.
-use super::{FIVE_IMAGE, files_of, five, words_of};
+use super::{FIVE_IMAGE, carry_out_words, check_file, check_put, check_status, files_of, five};
 use sp_base::MemSink;
-use sp_cli::{Status, space};
+use sp_cli::Status;
 use std::test::Fail;
 
 const USAGE: &str =
     "usage: space8080 verify SRC SCRIPTS IMG | asm SRC IMG | check SRC | conds SRC | run IMG | trial SRC NAME | gen N\n";
 
 /// One command line each, with `/` between words.
-const NO_FORM: [&str; 52] = [
+static NO_FORM: [&str; 52] = [
     "verify",
     "verify/SRC",
     "verify/SRC/SCRIPTS",
@@ -64,30 +64,33 @@ const NO_FORM: [&str; 52] = [
 ];
 
 /// Commands that are not built yet.
-const NOT_BUILT_YET: [&str; 4] = ["check/SRC", "conds/SRC", "trial/SRC/FIVE", "gen/1"];
+static NOT_BUILT_YET: [&str; 4] = ["check/SRC", "conds/SRC", "trial/SRC/FIVE", "gen/1"];
 
 #[test]
 fn words_in_no_form_put_the_usage_line(rt: HostRuntime) -> Result<(), Fail> {
     let alloc = rt.alloc();
     for line in NO_FORM.iter().chain(NOT_BUILT_YET.iter()) {
         let words = line.split('/').collect::<Vec<&str>>(alloc)?;
-        let words = words_of(alloc, &words)?;
         let mut files = files_of(alloc, &five(alloc)?, "")?;
         // No file is read, so that no call can fail.
         files.fail(1, 0)?;
         let mut out = MemSink::new(alloc);
-        assert_eq!(rt;
-            space(alloc, &words, &mut files, &mut out),
-            Status::Usage,
-            "{line}"
-        );
-        assert_eq!(rt; out.taken(), USAGE.as_bytes(), "{line}");
-        assert_eq!(rt; files.contents("IMG"), Some(b"old".as_slice()), "{line}");
+        let ended = carry_out_words(alloc, &words, &mut files, &mut out)?;
+        check_status(&rt, line, ended, Status::Usage);
+        check_put(&rt, line, &out, USAGE);
+        check_file(&rt, line, &files, "IMG", "old");
     }
+    Ok(())
+}
+
+#[test]
+fn no_words_put_the_usage_line(rt: HostRuntime) -> Result<(), Fail> {
+    let alloc = rt.alloc();
     let mut files = files_of(alloc, &five(alloc)?, "")?;
     let mut out = MemSink::new(alloc);
-    assert_eq!(rt; space(alloc, &[], &mut files, &mut out), Status::Usage);
-    assert_eq!(rt; out.taken(), USAGE.as_bytes());
+    let ended = carry_out_words(alloc, &[], &mut files, &mut out)?;
+    check_status(&rt, "", ended, Status::Usage);
+    check_put(&rt, "", &out, USAGE);
     Ok(())
 }
 
@@ -100,21 +103,14 @@ fn a_file_name_is_any_word_that_begins_with_no_sign(rt: HostRuntime) -> Result<(
         ["verify", "/", "\n"],
     ];
     for [source, scripts, image] in names {
-        let words = words_of(alloc, &["verify", source, scripts, image])?;
+        let words = ["verify", source, scripts, image];
         let mut files = files_of(alloc, "", "")?;
         files.add(source, five(alloc)?.as_bytes())?;
         files.add(scripts, b"")?;
         let mut out = MemSink::new(alloc);
-        assert_eq!(rt;
-            space(alloc, &words, &mut files, &mut out),
-            Status::Done,
-            "{image}"
-        );
-        assert_eq!(rt;
-            files.contents(image),
-            Some(FIVE_IMAGE.as_bytes()),
-            "{image}"
-        );
+        let ended = carry_out_words(alloc, &words, &mut files, &mut out)?;
+        check_status(&rt, image, ended, Status::Done);
+        check_file(&rt, image, &files, image, FIVE_IMAGE);
     }
     Ok(())
 }
