@@ -2,6 +2,7 @@
 mod codes;
 mod edges;
 mod examples;
+mod exerciser;
 mod locations;
 mod status_word;
 mod wrapping;
