@@ -25,56 +25,47 @@ fn check_written(
     Ok(())
 }
 
-#[test]
-fn runs_are_written_in_records_of_16_bytes(rt: HostRuntime) -> Result<(), Fail> {
-    let alloc = rt.alloc();
-    check_written(&rt, alloc, 0, b"", ":00000001FF\n")?;
-    check_written(
-        &rt,
-        alloc,
+/// An address, the bytes from there on, and the text of their image.
+static WRITTEN: [(u16, &[u8], &str); 9] = [
+    (0, &[], ":00000001FF\n"),
+    (0, &[0x3E, 5, 0xC9], ":030000003E05C9F1\n:00000001FF\n"),
+    (
         0,
-        &[0x3e, 5, 0xc9],
-        ":030000003E05C9F1\n:00000001FF\n",
-    )?;
-    check_written(
-        &rt,
-        alloc,
-        0,
-        &[5, 0xc2, 0, 0, 0xc9],
+        &[5, 0xC2, 0, 0, 0xC9],
         ":0500000005C20000C96B\n:00000001FF\n",
-    )?;
-    check_written(
-        &rt,
-        alloc,
+    ),
+    (
         0,
         &[
-            0x21, 0, 0x20, 6, 0x10, 0xaf, 0x77, 0x23, 5, 0xc2, 6, 0, 0xc9,
+            0x21, 0, 0x20, 6, 0x10, 0xAF, 0x77, 0x23, 5, 0xC2, 6, 0, 0xC9,
         ],
         ":0D0000002100200610AF772305C20600C9BD\n:00000001FF\n",
-    )?;
-    check_written(&rt, alloc, 0, &[0xff], ":01000000FF00\n:00000001FF\n")?;
-    check_written(&rt, alloc, 0xffff, &[1], ":01FFFF000100\n:00000001FF\n")?;
-    check_written(
-        &rt,
-        alloc,
+    ),
+    (0, &[0xFF], ":01000000FF00\n:00000001FF\n"),
+    (0xFFFF, &[1], ":01FFFF000100\n:00000001FF\n"),
+    (
         0,
         &[b'A'; 17],
         ":1000000041414141414141414141414141414141E0\n:0100100041AE\n:00000001FF\n",
-    )?;
-    check_written(
-        &rt,
-        alloc,
-        0xffff,
+    ),
+    (
+        0xFFFF,
         &[1, 2],
         ":0100000002FD\n:01FFFF000100\n:00000001FF\n",
-    )?;
-    check_written(
-        &rt,
-        alloc,
+    ),
+    (
         0x1234,
         &[0x10; 16],
         ":1012340010101010101010101010101010101010AA\n:00000001FF\n",
-    )
+    ),
+];
+
+#[test]
+fn runs_are_written_in_records_of_16_bytes(rt: HostRuntime) -> Result<(), Fail> {
+    for (address, bytes, text) in &WRITTEN {
+        check_written(&rt, rt.alloc(), *address, bytes, text)?;
+    }
+    Ok(())
 }
 
 /// Reads a text that stands for these bytes from address 0 on.
@@ -115,65 +106,70 @@ fn a_text_is_read(rt: HostRuntime) -> Result<(), Fail> {
     Ok(())
 }
 
+/// Texts whose first line isn't a record.
+static NO_RECORDS: [&str; 21] = [
+    "\n:00000001FF",
+    ":",
+    ":030000003",
+    "0100000008F7",
+    ":0100000008F",
+    ":01000000G8F7",
+    ":0200000008F6",
+    ":0000000008F8",
+    ":0200000008F7",
+    ":0100000108F6",
+    ":020000021000EC",
+    ":0400000300003800C1",
+    ":020000040800F2",
+    ":04000005000000CD2A",
+    ":000000FF01",
+    ":02FFFF000102FD",
+    ":0100000008F7\r:00000001FF\n",
+    ":00000001FF\r",
+    " :00000001FF",
+    ":00000001FF ",
+    ":0000000G\n:0100000008F8",
+];
+
+/// Texts with their refusals.
+static REFUSED: [(&str, HexRefusal); 13] = [
+    ("", HexRefusal::NoEnd),
+    (":0100000008F7", HexRefusal::NoEnd),
+    (":0100000008F7\n", HexRefusal::NoEnd),
+    (":0100000008F8", HexRefusal::BadSum(Line(1))),
+    (":00000001FE", HexRefusal::BadSum(Line(1))),
+    (":0100000008F8\nx", HexRefusal::BadSum(Line(1))),
+    (":0100000008F7\n:0100000008F8", HexRefusal::BadSum(Line(2))),
+    (
+        ":0100000008F7\n:0100000008F7\n:00000001FF",
+        HexRefusal::Overlap(Line(2)),
+    ),
+    (
+        ":0100010008F6\r\n:020000000708EF\r\nx",
+        HexRefusal::Overlap(Line(2)),
+    ),
+    (":00000001FF\nx", HexRefusal::AfterEnd(Line(2))),
+    (":00000001FF\n \n", HexRefusal::AfterEnd(Line(2))),
+    (":00000001FF\n\n:00000001FF", HexRefusal::AfterEnd(Line(3))),
+    (
+        ":0100000008F7\n:00000001FF\n:0100000008F7\n:00000001FF\n",
+        HexRefusal::AfterEnd(Line(3)),
+    ),
+];
+
+fn check_refused(rt: &impl Abort, alloc: Global, text: &str, refusal: HexRefusal) {
+    assert!(rt; text.len() < 10_000);
+    assert_eq!(rt; read(alloc, text.as_bytes()).err(), Some(refusal), "{text}");
+}
+
 #[test]
 fn a_text_is_refused_at_its_lowest_line(rt: HostRuntime) {
     let alloc = rt.alloc();
-    let no_records = [
-        "\n:00000001FF",
-        ":",
-        ":030000003",
-        "0100000008F7",
-        ":0100000008F",
-        ":01000000G8F7",
-        ":0200000008F6",
-        ":0000000008F8",
-        ":0200000008F7",
-        ":0100000108F6",
-        ":020000021000EC",
-        ":0400000300003800C1",
-        ":020000040800F2",
-        ":04000005000000CD2A",
-        ":000000FF01",
-        ":02FFFF000102FD",
-        ":0100000008F7\r:00000001FF\n",
-        ":00000001FF\r",
-        " :00000001FF",
-        ":00000001FF ",
-        ":0000000G\n:0100000008F8",
-    ];
-    for text in no_records {
-        assert_eq!(rt;
-            read(alloc, text.as_bytes()).err(),
-            Some(HexRefusal::BadRecord(Line(1))),
-            "{text}"
-        );
+    for text in &NO_RECORDS {
+        check_refused(&rt, alloc, text, HexRefusal::BadRecord(Line(1)));
     }
-    let refused = [
-        ("", HexRefusal::NoEnd),
-        (":0100000008F7", HexRefusal::NoEnd),
-        (":0100000008F7\n", HexRefusal::NoEnd),
-        (":0100000008F8", HexRefusal::BadSum(Line(1))),
-        (":00000001FE", HexRefusal::BadSum(Line(1))),
-        (":0100000008F8\nx", HexRefusal::BadSum(Line(1))),
-        (":0100000008F7\n:0100000008F8", HexRefusal::BadSum(Line(2))),
-        (
-            ":0100000008F7\n:0100000008F7\n:00000001FF",
-            HexRefusal::Overlap(Line(2)),
-        ),
-        (
-            ":0100010008F6\r\n:020000000708EF\r\nx",
-            HexRefusal::Overlap(Line(2)),
-        ),
-        (":00000001FF\nx", HexRefusal::AfterEnd(Line(2))),
-        (":00000001FF\n \n", HexRefusal::AfterEnd(Line(2))),
-        (":00000001FF\n\n:00000001FF", HexRefusal::AfterEnd(Line(3))),
-        (
-            ":0100000008F7\n:00000001FF\n:0100000008F7\n:00000001FF\n",
-            HexRefusal::AfterEnd(Line(3)),
-        ),
-    ];
-    for (text, refusal) in refused {
-        assert_eq!(rt; read(alloc, text.as_bytes()).err(), Some(refusal), "{text}");
+    for (text, refusal) in &REFUSED {
+        check_refused(&rt, alloc, text, *refusal);
     }
 }
 

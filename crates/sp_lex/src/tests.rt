@@ -1,117 +1,122 @@
-use crate::{LexRefusal, LineKind, TokenKind, characters, lines, name, number};
+use crate::{LexRefusal, LineKind, Lines, TokenKind, characters, lines, name, number};
 use sp_base::Line;
 use std::alloc::Global;
 use std::process::Abort;
 use std::test::Fail;
 
-/// The kinds of a source's lines and tokens, or its refusal, as a text.
-fn shape(rt: &impl Abort, alloc: Global, source: &[u8]) -> Result<String, Fail> {
-    assert!(rt; source.len() < 10_000);
+fn line_mark(kind: LineKind) -> char {
+    match kind {
+        LineKind::Empty => '-',
+        LineKind::Statement => '.',
+        LineKind::Annotation => ';',
+    }
+}
+
+fn token_mark(kind: TokenKind) -> char {
+    match kind {
+        TokenKind::Name => 'n',
+        TokenKind::Number => '1',
+        TokenKind::Text => 't',
+        TokenKind::Symbol => 's',
+    }
+}
+
+/// The kinds of lines and their tokens, as a text.
+fn kinds(alloc: Global, lines: &Lines) -> Result<String, Fail> {
     let mut text = String::new(alloc);
-    match lines(alloc, source) {
-        Ok(lines) => {
-            for line in lines.as_slice() {
-                text.push(match line.kind {
-                    LineKind::Empty => '-',
-                    LineKind::Statement => '.',
-                    LineKind::Annotation => ';',
-                })?;
-                for token in line.tokens.as_slice() {
-                    text.push(match token.kind {
-                        TokenKind::Name => 'n',
-                        TokenKind::Number => '1',
-                        TokenKind::Text => 't',
-                        TokenKind::Symbol => 's',
-                    })?;
-                }
-            }
+    for line in lines.as_slice() {
+        text.push(line_mark(line.kind))?;
+        for token in line.tokens.as_slice() {
+            text.push(token_mark(token.kind))?;
         }
-        Err(LexRefusal::LongLine(Line(n))) => text.push_str(format!(in alloc;
-            "long {n}"
-        )?.as_str())?,
-        Err(LexRefusal::BadByte(Line(n))) => text.push_str(format!(in alloc;
-            "byte {n}"
-        )?.as_str())?,
-        Err(LexRefusal::OpenQuote(Line(n))) => text.push_str(format!(in alloc;
-            "quote {n}"
-        )?.as_str())?,
-        Err(LexRefusal::BadNumber(Line(n))) => text.push_str(format!(in alloc;
-            "number {n}"
-        )?.as_str())?,
-        Err(LexRefusal::Memory) => text.push_str("memory")?,
     }
     Ok(text)
 }
 
+/// The kinds of a source's lines and tokens, or its refusal, as a text.
+fn shape(rt: &impl Abort, alloc: Global, source: &[u8]) -> Result<String, Fail> {
+    assert!(rt; source.len() < 10_000);
+    match lines(alloc, source) {
+        Ok(lines) => kinds(alloc, &lines),
+        Err(LexRefusal::LongLine(Line(n))) => Ok(format!(in alloc; "long {n}")?),
+        Err(LexRefusal::BadByte(Line(n))) => Ok(format!(in alloc; "byte {n}")?),
+        Err(LexRefusal::OpenQuote(Line(n))) => Ok(format!(in alloc; "quote {n}")?),
+        Err(LexRefusal::BadNumber(Line(n))) => Ok(format!(in alloc; "number {n}")?),
+        Err(LexRefusal::Memory) => Ok(String::from_str(alloc, "memory")?),
+    }
+}
+
+/// Sources with the kinds of their lines and tokens, or their refusals.
+static SHAPES: [(&[u8], &str); 62] = [
+    (b"", ""),
+    (b"\n", "-"),
+    (b"\r\n\n", "--"),
+    (b"FIVE: MVI A,5 ; five\n      RET", ".nsnns1.n"),
+    (b"\tNOP\t;\xc3\xa9; ' \xff", ".n"),
+    (b"; only \x80\n  \t", "--"),
+    (b"A\r", "byte 1"),
+    (b"A\r\r\n", "byte 1"),
+    (b";a\rb\n", "byte 1"),
+    (b";a\x7f", "byte 1"),
+    (b";a\x1f", "byte 1"),
+    (b"A\x7f", "byte 1"),
+    (b"\xc3", "byte 1"),
+    (b"'\xc3'", "byte 1"),
+    (b"'\x01", "byte 1"),
+    (b"'a\tb'", ".t"),
+    (b"''", ".t"),
+    (b"''''", ".t"),
+    (b"'''", "quote 1"),
+    (b"A\nDB 'abc", "quote 2"),
+    (b"DB ';' ; '", ".nt"),
+    (b"DB 'a;b", "quote 1"),
+    (b"DB 'it''s','x'", ".ntst"),
+    (b"1B 0BH 12Q 17O 9D 0FFFFH 0ffffh 1H", ".11111111"),
+    (b"1H0", "number 1"),
+    (b"2B", "number 1"),
+    (b"8O", "number 1"),
+    (b"1A", "number 1"),
+    (b"65535 65536", "number 1"),
+    (b"65535 177777Q 1111111111111111B", ".111"),
+    (b"10000H", "number 1"),
+    (b"99999999999999999999999999", "number 1"),
+    (b"1@ 1?", ".1n1n"),
+    (b"1_", "byte 1"),
+    (b"?@9z @ _", "byte 1"),
+    (b"?@9z @ a1", ".nnn"),
+    (b"$:,+-*/()", ".sssssssss"),
+    (b"=", "byte 1"),
+    (b"A[", "byte 1"),
+    (b"<", "byte 1"),
+    (b"~ ", "byte 1"),
+    (b"\"", "byte 1"),
+    (b"ABCDEFGHIJKLMNOPQRSTUVWXYZ01234", ".n"),
+    (b"ABCDEFGHIJKLMNOPQRSTUVWXYZ012345", "byte 1"),
+    (b" ;# $:,+-*/()[]~=< >", ";sssssssssssssss"),
+    (b";#<-> <- -> <= >= <> .. < -", ";ssssssssss"),
+    (b";#<->1", ";s1"),
+    (b";#<=>", ";ss"),
+    (b";#.", "byte 1"),
+    (b";#...", "byte 1"),
+    (b";#", ";"),
+    (b";# a ; \xff;#", ";n"),
+    (b"; # a", "-"),
+    (b"A ;# b", ".n"),
+    (b";# 9223372036854775807 65536", ";11"),
+    (b";# 9223372036854775808", "number 1"),
+    (b"A\n end \xff", "byte 2"),
+    (b"A\n eNd 1\n\x01", ".n.n1"),
+    (b"END: \n\x01", ".ns"),
+    (b"L1: END\n\x01", "byte 2"),
+    (b";# end\n1H0 '", "quote 2"),
+    (b"1H0 '\n\x01", "quote 1"),
+];
+
 #[test]
 fn lines_and_tokens_have_their_kinds(rt: HostRuntime) -> Result<(), Fail> {
-    let table: [(&[u8], &str); 62] = [
-        (b"", ""),
-        (b"\n", "-"),
-        (b"\r\n\n", "--"),
-        (b"FIVE: MVI A,5 ; five\n      RET", ".nsnns1.n"),
-        (b"\tNOP\t;\xc3\xa9; ' \xff", ".n"),
-        (b"; only \x80\n  \t", "--"),
-        (b"A\r", "byte 1"),
-        (b"A\r\r\n", "byte 1"),
-        (b";a\rb\n", "byte 1"),
-        (b";a\x7f", "byte 1"),
-        (b";a\x1f", "byte 1"),
-        (b"A\x7f", "byte 1"),
-        (b"\xc3", "byte 1"),
-        (b"'\xc3'", "byte 1"),
-        (b"'\x01", "byte 1"),
-        (b"'a\tb'", ".t"),
-        (b"''", ".t"),
-        (b"''''", ".t"),
-        (b"'''", "quote 1"),
-        (b"A\nDB 'abc", "quote 2"),
-        (b"DB ';' ; '", ".nt"),
-        (b"DB 'a;b", "quote 1"),
-        (b"DB 'it''s','x'", ".ntst"),
-        (b"1B 0BH 12Q 17O 9D 0FFFFH 0ffffh 1H", ".11111111"),
-        (b"1H0", "number 1"),
-        (b"2B", "number 1"),
-        (b"8O", "number 1"),
-        (b"1A", "number 1"),
-        (b"65535 65536", "number 1"),
-        (b"65535 177777Q 1111111111111111B", ".111"),
-        (b"10000H", "number 1"),
-        (b"99999999999999999999999999", "number 1"),
-        (b"1@ 1?", ".1n1n"),
-        (b"1_", "byte 1"),
-        (b"?@9z @ _", "byte 1"),
-        (b"?@9z @ a1", ".nnn"),
-        (b"$:,+-*/()", ".sssssssss"),
-        (b"=", "byte 1"),
-        (b"A[", "byte 1"),
-        (b"<", "byte 1"),
-        (b"~ ", "byte 1"),
-        (b"\"", "byte 1"),
-        (b"ABCDEFGHIJKLMNOPQRSTUVWXYZ01234", ".n"),
-        (b"ABCDEFGHIJKLMNOPQRSTUVWXYZ012345", "byte 1"),
-        (b" ;# $:,+-*/()[]~=< >", ";sssssssssssssss"),
-        (b";#<-> <- -> <= >= <> .. < -", ";ssssssssss"),
-        (b";#<->1", ";s1"),
-        (b";#<=>", ";ss"),
-        (b";#.", "byte 1"),
-        (b";#...", "byte 1"),
-        (b";#", ";"),
-        (b";# a ; \xff;#", ";n"),
-        (b"; # a", "-"),
-        (b"A ;# b", ".n"),
-        (b";# 9223372036854775807 65536", ";11"),
-        (b";# 9223372036854775808", "number 1"),
-        (b"A\n end \xff", "byte 2"),
-        (b"A\n eNd 1\n\x01", ".n.n1"),
-        (b"END: \n\x01", ".ns"),
-        (b"L1: END\n\x01", "byte 2"),
-        (b";# end\n1H0 '", "quote 2"),
-        (b"1H0 '\n\x01", "quote 1"),
-    ];
-    for (source, want) in table {
+    for (source, want) in &SHAPES {
         let found = shape(&rt, rt.alloc(), source)?;
-        assert_eq!(rt; found.as_str(), want, "at {source:?}");
+        assert_eq!(rt; found.as_str(), *want, "at {source:?}");
     }
     Ok(())
 }
