@@ -1,5 +1,7 @@
-//! Groups of the 8080 instruction exerciser (the form for the 8080 of Frank Cringle's exerciser for the Z80), whose sums come
-//! from a real processor. A group runs its instructions in many states, and its sum is the CRC-32 of all states after them.
+//! Groups of the 8080 instruction exerciser (the form for the 8080 of Frank Cringle's exerciser for the Z80), which gives its
+//! sums as those of a processor. A group runs its instructions in many states, and its sum is the CRC-32 of all states
+//! after them. The rows and sums were written from memory, with no copy of the exerciser at hand. Where a row or the order
+//! of cases was in doubt (which bits DAD turns, that the first case is the state itself), the one whose sum agrees was taken.
 use sp_base::Reg;
 use sp_machine::Machine;
 use std::process::Abort;
@@ -387,7 +389,7 @@ fn check_group(rt: &impl Abort, machine: &mut Machine, group: &Group) {
 }
 
 #[test]
-fn sums_are_those_of_a_processor(rt: HostRuntime) -> Result<(), Fail> {
+fn sums_are_those_of_the_exerciser(rt: HostRuntime) -> Result<(), Fail> {
     let mut machine = Machine::new(rt.alloc())?;
     machine.set_cell(POP_PSW, 0xF1);
     machine.set_cell(PUSH_PSW, 0xF5);
