@@ -6,3 +6,4 @@ pub mod Locs
 pub mod MemFiles
 pub mod MemSink
 pub mod Name
+pub mod Refused

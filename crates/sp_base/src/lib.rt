@@ -12,6 +12,8 @@ mod memory_files;
 mod memory_sink;
 mod name;
 mod pair;
+mod refused;
+mod seq;
 
 pub use files::{Files, ReadRefusal, Sink, WriteRefusal};
 pub use image::Image;
@@ -23,6 +25,8 @@ pub use memory_files::MemFiles;
 pub use memory_sink::MemSink;
 pub use name::Name;
 pub use pair::Pair;
+pub use refused::Refused;
+pub use seq::Seq;
 
 #[cfg(test)]
 mod tests;
