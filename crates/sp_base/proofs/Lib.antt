@@ -3,3 +3,4 @@ pub mod FindLaws
 pub mod ImageLaws
 pub mod LocsLaws
 pub mod PlaceLaws
+pub mod IntegerLemmas

@@ -1,6 +1,7 @@
 pub mod Cells
 pub mod Files
 pub mod Image
+pub mod Integers
 pub mod Location
 pub mod Locs
 pub mod MemFiles

@@ -4,6 +4,7 @@
 
 mod files;
 mod image;
+mod laws;
 mod line;
 mod location;
 mod locs;
@@ -17,6 +18,7 @@ mod seq;
 
 pub use files::{Files, ReadRefusal, Sink, WriteRefusal};
 pub use image::Image;
+pub use laws::{division_rounds_down, low_bytes_are_remainders, ranges_are_tested, sums_add_up};
 pub use line::Line;
 pub use location::{Loc, Reg};
 pub use locs::Locs;

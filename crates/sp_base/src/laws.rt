@@ -1,0 +1,53 @@
+//! What holds of whole numbers alone, as contracts of functions that do nothing.
+
+ghost use Rattle.std.specs.Prelude.{◌≡◌, ◌≢◌, ℕ, ◌<◌, ℤ, pos, negsuc, ◌+ℤ◌, ◌<ℤ◌, ◌≤ℤ◌, ◌↔◌, Bool, IsTrue};
+ghost use Rattle.sp_base.specs.Integers.{
+  quotient,
+  remainder,
+  IsDivision,
+  low_byte,
+  byte_and,
+  byte_or,
+  byte_xor,
+  parity,
+  sum_between,
+  all_between,
+  some_between,
+};
+
+/// A quotient and its remainder make the number again, and the remainder lies between 0 and the divisor. By 0 both
+/// are 0.
+pub fn division_rounds_down()
+    ensures whole { (x y : ℤ) → y ≢ pos 0 → IsDivision x y (quotient x y) (remainder x y) }
+    ensures by_zero { (x : ℤ) → (quotient x (pos 0) ≡ pos 0) × (remainder x (pos 0) ≡ pos 0) }
+    // -7 by 2 is -4 and 1 is left; 7 by -2 is -4 and -1 is left.
+    ensures negative { (quotient (negsuc 6) (pos 2) ≡ negsuc 3) × (remainder (negsuc 6) (pos 2) ≡ pos 1) }
+    ensures by_negative { (quotient (pos 7) (negsuc 1) ≡ negsuc 3) × (remainder (pos 7) (negsuc 1) ≡ negsuc 0) }
+{}
+
+/// The low byte of a number is what is left over of it by 256.
+pub fn low_bytes_are_remainders()
+    ensures value { (x : ℤ) → remainder x (pos 256) ≡ pos (low_byte x) }
+    ensures range { (x : ℤ) → low_byte x < 256 }
+    ensures and { (byte_and (pos 268) (pos 10) ≡ pos 8) × (byte_and (negsuc 0) (pos 10) ≡ pos 10) }
+    ensures or { (byte_or (pos 268) (pos 10) ≡ pos 14) × (byte_or (negsuc 0) (pos 10) ≡ pos 255) }
+    ensures xor { (byte_xor (pos 268) (pos 10) ≡ pos 6) × (byte_xor (negsuc 0) (pos 10) ≡ pos 245) }
+    ensures even { (parity (pos 3) ≡ pos 1) × (parity (pos 256) ≡ pos 1) × (parity (negsuc 0) ≡ pos 1) }
+    ensures odd { (parity (pos 1) ≡ pos 0) × (parity (pos 263) ≡ pos 0) × (parity (negsuc 1) ≡ pos 0) }
+{}
+
+/// A sum over no number is 0, over one number the value there, and over a range in two parts the sum over both.
+pub fn sums_add_up()
+    ensures none { (f : ℤ → ℤ) (low high : ℤ) → high <ℤ low → sum_between f low high ≡ pos 0 }
+    ensures one { (f : ℤ → ℤ) (z : ℤ) → sum_between f z z ≡ f z }
+    ensures parts { (f : ℤ → ℤ) (low mid high : ℤ) → low ≤ℤ (mid +ℤ pos 1) → mid ≤ℤ high →
+        sum_between f low high ≡ sum_between f low mid +ℤ sum_between f (mid +ℤ pos 1) high }
+{}
+
+/// A test of a range passes at each of its numbers, or at one of them.
+pub fn ranges_are_tested()
+    ensures all { (p : ℤ → Bool) (low high : ℤ) → IsTrue (all_between p low high) ↔
+        ((z : ℤ) → low ≤ℤ z → z ≤ℤ high → IsTrue (p z)) }
+    ensures some { (p : ℤ → Bool) (low high : ℤ) → IsTrue (some_between p low high) ↔
+        ((z : ℤ) × (low ≤ℤ z) × (z ≤ℤ high) × IsTrue (p z)) }
+{}
