@@ -1,4 +1,5 @@
 pub mod CutLaws
+pub mod ItemLemmas
 pub mod NumberLaws
 pub mod PieceLaws
 pub mod ReadingLaws

@@ -2,6 +2,7 @@ pub mod Bytes
 pub mod Names
 pub mod Numbers
 pub mod Pieces
+pub mod Readers
 pub mod Reading
 pub mod Refusal
 pub mod Standing

@@ -7,6 +7,7 @@ mod laws;
 mod names;
 mod numbers;
 mod pieces;
+mod readers;
 mod reading;
 mod refusal;
 mod rows;
@@ -19,6 +20,7 @@ pub use laws::{
 };
 pub use names::name;
 pub use numbers::number;
+pub use readers::{is_symbol, item_len, name_at, symbol_at, text_of};
 pub use reading::lines;
 pub use refusal::{LexRefusal, TextKind};
 pub use texts::characters;
