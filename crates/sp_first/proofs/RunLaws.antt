@@ -25,7 +25,7 @@ use Rattle.sp_isa.proofs.CodeLaws.{decodes_codes}
 use Rattle.sp_model.specs.State.{State, IsState, next_instr, executed, executed_or_stuck, step, run}
 use Rattle.sp_model.specs.Note.{Holds}
 use Rattle.sp_model.specs.Unit.{Routine, Unit}
-use Rattle.sp_model.specs.Good.{IsEntry, Keeps, IsReturnStep, HasReturned, IsInCode, IsGoodAt, IsGood, AllRunsAreGood}
+use Rattle.sp_model.specs.Good.{frame_of, IsEntry, Keeps, IsReturnStep, HasReturned, IsInCode, IsGoodAt, IsGood, AllRunsAreGood}
 use Rattle.sp_first.specs.Program.{Reading, instr_of, instrs, stmts_from, routine_of, unit_of, same_reg, last_value, SetsListed, Meets}
 use Rattle.sp_first.proofs.Steps.{same_some}
 use Rattle.sp_first.proofs.CoreLaws.{reg_of-at, at-with_pc, at-with_sp, at-with_reg, reg_of-with_reg, frame-with_reg}
@@ -221,7 +221,7 @@ returned r s t b h ret =
     let left = λ (x : Loc). at-with_sp x (t.core.sp + 2) (with_pc (word t.core.sp t.core) t.core) ∙ at-with_pc x (word t.core.sp t.core) t.core in
     subst (HasReturned (unit_of r) (routine_of r) s) (sym after) (record {
       keeps = keeps_all r s (executed Ret t) h.cells (append-nil t.outputs ∙ h.outputs);
-      post = All-cons (λ note. Holds note s (executed Ret t)) _ [] (ap pos (left (loc_of r.post) ∙ sym (reg_of-at r.post t.core) ∙ h.values r.post r.value b.met.post)) (All-nil _);
+      post = All-cons (λ note. Holds (frame_of (unit_of r) (routine_of r) s) note s (executed Ret t)) _ [] (ap pos (left (loc_of r.post) ∙ sym (reg_of-at r.post t.core) ∙ h.values r.post r.value b.met.post)) (All-nil _);
       sp = let room = (b.entry.room refl).above in omega (arith, h.sp, room);
       pc =
           let same : word t.core.sp t.core ≡ word s.core.sp s.core = ap (λ p. word p t.core) h.sp ∙ ap (λ c. slice_index c (s.core.sp % 65536) + 256 * slice_index c ((s.core.sp + 1) % 65536)) h.cells in
@@ -252,7 +252,7 @@ good_at r s done todo t b h = record {
   keeps = keeps_all r s t h.cells h.outputs;
   in_code = in_code r s done todo t h;
   not_stuck = λ _. subst IsSome (sym (fetched r s done todo t b h)) (search rules);
-  asserts = λ i c e. subst (All (λ note. Holds note s t)) (sym (no_asserts 0 (instrs r) i c)) (All-nil _);
+  asserts = λ i c e. subst (All (λ note. Holds (frame_of (unit_of r) (routine_of r) s) note s t)) (sym (no_asserts 0 (instrs r) i c)) (All-nil _);
   inputs = λ _ i e port takes.
       let same : next todo ≡ i.0 = ap (λ (p : Instr × ℕ). p.0) (same_some (next todo, length (code (next todo))) i (sym (fetched r s done todo t b h) ∙ e)) in
       absurd (no_port port (sym takes ∙ ap takes_input (sym same) ∙ takes_none todo));

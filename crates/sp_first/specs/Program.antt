@@ -11,7 +11,7 @@ use Rattle.sp_isa.specs.declared.instr.Instr.TheVariants as instr
 use Rattle.sp_first.specs.declared.transfer.Transfer.{Transfer}
 use Rattle.sp_first.specs.declared.transfer.Transfer.TheVariants.{Mvi, Mov}
 use Rattle.sp_isa.specs.Code.{code, reg_code}
-use Rattle.sp_model.specs.Note.{Equal, Now, Number, Compare}
+use Rattle.sp_model.specs.Note.{Equal, Now, Literal, Location, Compare}
 use Rattle.sp_model.specs.Unit.{Stmt, Routine, Unit}
 use Rattle.sp_first.specs.Form.{Form, Move, Load, Copy, number_of}
 
@@ -56,7 +56,7 @@ routine_of r = record {
   address = 0;
   start = false;
   pre = [];
-  post = Compare Equal (Now (loc_of r.post)) (Number r.value) ∷ [];
+  post = Compare Equal (Location Now (loc_of r.post)) (Literal r.value) ∷ [];
   reads = record { locs = []; areas = [] };
   changes = record { locs = map loc_of r.changes; areas = [] };
   ins = [];

@@ -1,14 +1,14 @@
 -- What is claimed of every run from a routine's entry to its return (this project's own).
-use Rattle.std.specs.Prelude.{◌≡◌, ℕ, ◌+◌, ◌<◌, ◌≤◌, Bool, false, List, ◌++◌, All, Contains, Option, Some, IsSome, IsTrue, if◌then◌else◌}
+use Rattle.std.specs.Prelude.{◌≡◌, ℕ, ◌+◌, ◌<◌, ◌≤◌, false, List, ◌++◌, All, Contains, Some, IsSome, IsTrue, if◌then◌else◌}
 use Rattle.std.specs.FinMap as maps
 use Rattle.sp_base.specs.declared.location.Loc.{Loc}
 use Rattle.sp_base.specs.Image.{ImageMap}
 use Rattle.sp_isa.specs.declared.instr.Instr.{Instr}
 use Rattle.sp_isa.specs.Core.{Core, at, cell, word}
 use Rattle.sp_isa.specs.Effect.{takes_input, returns}
-use Rattle.sp_model.specs.Note.{Note, Holds}
+use Rattle.sp_model.specs.Note.{Frame, Holds}
 use Rattle.sp_model.specs.State.{State, IsState, next_instr, step, run}
-use Rattle.sp_model.specs.Unit.{Area, Listed, Stmt, Routine, Unit}
+use Rattle.sp_model.specs.Unit.{Area, Stmt, Routine, Unit}
 
 -- each byte of the image is in memory at its address
 abbrev pub Loaded : ImageMap → State → Type 0
@@ -19,6 +19,14 @@ pub record HasRoom (u : Unit) (r : Routine) (sp : ℕ) : Type 0 where
   pub below : u.first + r.depth ≤ sp
   pub above : sp + 1 ≤ u.last
 
+-- the base of the routine's stack: where its return address stands, or past the stack region for a start routine
+abbrev pub base : Unit → Routine → State → ℕ
+base u r s = if r.start then u.last + 1 else s.core.sp
+
+-- what the routine's annotations are read in, for a run that began at s
+abbrev pub frame_of : Unit → Routine → State → Frame
+frame_of u r s = record { first = u.first; last = u.last; base = base u r s }
+
 -- an entry of the routine: a state of the machine with the image loaded, at the routine's first instruction, with its
 -- preconditions true, and, unless it is a start routine, with stack room
 pub record IsEntry (u : Unit) (r : Routine) (s : State) : Type 0 where
@@ -26,12 +34,8 @@ pub record IsEntry (u : Unit) (r : Routine) (s : State) : Type 0 where
   pub loaded : Loaded u.image s
   pub begins : s.core.pc ≡ r.address
   pub running : s.core.halted ≡ false
-  pub pre : All (λ note. Holds note s s) r.pre
+  pub pre : All (λ note. Holds (frame_of u r s) note s s) r.pre
   pub room : r.start ≡ false → HasRoom u r s.core.sp
-
--- the base of the routine's stack: where its return address stands, or past the stack region for a start routine
-abbrev pub base : Unit → Routine → State → ℕ
-base u r s = if r.start then u.last + 1 else s.core.sp
 
 -- an address of an area
 abbrev pub InArea : ℕ → Area → Type 0
@@ -55,7 +59,7 @@ pub record IsReturnStep (u : Unit) (r : Routine) (s t : State) : Type 0 where
 -- the state after the return step: the stack and what isn't listed are as at entry, and the postconditions are true
 pub record HasReturned (u : Unit) (r : Routine) (s t : State) : Type 0 where
   pub keeps : Keeps u r s t
-  pub post : All (λ note. Holds note s t) r.post
+  pub post : All (λ note. Holds (frame_of u r s) note s t) r.post
   pub sp : t.core.sp ≡ base u r s + 2
   pub pc : t.core.pc ≡ word (base u r s) s.core
   pub unlisted : (x : Loc) → ¬ Contains r.changes.locs x → at x t.core ≡ at x s.core
@@ -69,7 +73,7 @@ pub record IsGoodAt (u : Unit) (r : Routine) (s t : State) : Type 0 where
   pub keeps : Keeps u r s t
   pub in_code : IsInCode u t.core
   pub not_stuck : t.core.halted ≡ false → IsSome (next_instr t.core)
-  pub asserts : (i : Stmt) → Contains r.code i → i.address ≡ t.core.pc → All (λ note. Holds note s t) i.asserts
+  pub asserts : (i : Stmt) → Contains r.code i → i.address ≡ t.core.pc → All (λ note. Holds (frame_of u r s) note s t) i.asserts
   pub inputs : t.core.halted ≡ false → (i : Instr × ℕ) → next_instr t.core ≡ Some i → (port : ℕ) → takes_input i.0 ≡ Some port → Contains r.ins port
   pub returned : IsReturnStep u r s t → HasReturned u r s (step t)
 
