@@ -22,7 +22,8 @@ use Rattle.sp_isa.specs.Core.{Core, at, reg_of, cell, word, with_reg, with_pc, w
 use Rattle.sp_isa.specs.Stack.{ret}
 use Rattle.sp_isa.specs.Effect.{effect, takes_input, returns}
 use Rattle.sp_isa.proofs.CodeLaws.{decodes_codes}
-use Rattle.sp_model.specs.State.{State, IsState, next_instr, executed, executed_or_stuck, step, run}
+use Rattle.sp_model.specs.State.{State, IsState, next_instr, executed, step, run}
+use Rattle.sp_model.proofs.StateLemmas.{steps_execute}
 use Rattle.sp_model.specs.Note.{Holds}
 use Rattle.sp_model.specs.Unit.{Routine, Unit}
 use Rattle.sp_model.specs.Good.{frame_of, IsEntry, Keeps, IsReturnStep, HasReturned, IsInCode, IsGoodAt, IsGood, AllRunsAreGood}
@@ -55,11 +56,6 @@ fetches core (Mvi to byte ∷ todo) h =
 fetches core [] h =
     ap (λ b. decode b (cell (core.pc + 1) core) (cell (core.pc + 2) core)) (here core _ (h 0 (omega arith)))
     ∙ decodes_codes Ret refl (cell (core.pc + 1) core ∷ cell (core.pc + 2) core ∷ [])
-
--- one step of a state that fetches an instruction
-pub step_is : (t : State) (i : Instr) (n : ℕ) → t.core.halted ≡ false → next_instr t.core ≡ Some (i, n) → step t ≡ executed i t
-unfolding step
-step_is t i n running fetched = ap (λ b. cond b t (executed_or_stuck (next_instr t.core) t)) running ∙ ap (λ o. executed_or_stuck o t) fetched
 
 -- ---- where a run comes to
 -- the state t after the instructions `done` of a run from s, with `todo` before it
@@ -180,10 +176,10 @@ mov_sets to from t earlier known = record { v = reg_of from t.core; value = last
 pub reached_next : (r : Reading) (s : State) (done : List Transfer) (i : Transfer) (todo : List Transfer) (t : State) → Begins r s → Reached r s done (i ∷ todo) t → SetsListed r.changes i → Reached r s (done ++ i ∷ []) todo (step t)
 reached_next r s done (Mvi to byte) todo t b h listed =
     let m = mvi_sets to byte t (reverse done) in
-    subst (Reached r s (done ++ Mvi to byte ∷ []) todo) (sym (step_is t (instr_of (Mvi to byte)) _ h.running (fetched r s done (Mvi to byte ∷ todo) t b h) ∙ m.after)) (reached_moved r s done (Mvi to byte) todo t b h to m listed)
+    subst (Reached r s (done ++ Mvi to byte ∷ []) todo) (sym (steps_execute t (instr_of (Mvi to byte)) _ h.running (fetched r s done (Mvi to byte ∷ todo) t b h) ∙ m.after)) (reached_moved r s done (Mvi to byte) todo t b h to m listed)
 reached_next r s done (Mov to from) todo t b h listed =
     let m = mov_sets to from t (reverse done) (h.values from) in
-    subst (Reached r s (done ++ Mov to from ∷ []) todo) (sym (step_is t (instr_of (Mov to from)) _ h.running (fetched r s done (Mov to from ∷ todo) t b h) ∙ m.after)) (reached_moved r s done (Mov to from) todo t b h to m listed)
+    subst (Reached r s (done ++ Mov to from ∷ []) todo) (sym (steps_execute t (instr_of (Mov to from)) _ h.running (fetched r s done (Mov to from ∷ todo) t b h) ∙ m.after)) (reached_moved r s done (Mov to from) todo t b h to m listed)
 
 -- ---- what is claimed of each state
 cell_small : (s : State) → IsState s → (a : ℕ) → cell a s.core < 256
@@ -217,7 +213,7 @@ no_port port e = cc
 returned : (r : Reading) (s t : State) → Begins r s → Reached r s r.program [] t → IsReturnStep (unit_of r) (routine_of r) s t → HasReturned (unit_of r) (routine_of r) s (step t)
 unfolding effect ret with_sp with_pc
 returned r s t b h ret =
-    let after = step_is t Ret 1 h.running (fetched r s r.program [] t b h) in
+    let after = steps_execute t Ret 1 h.running (fetched r s r.program [] t b h) in
     let left = λ (x : Loc). at-with_sp x (t.core.sp + 2) (with_pc (word t.core.sp t.core) t.core) ∙ at-with_pc x (word t.core.sp t.core) t.core in
     subst (HasReturned (unit_of r) (routine_of r) s) (sym after) (record {
       keeps = keeps_all r s (executed Ret t) h.cells (append-nil t.outputs ∙ h.outputs);

@@ -1,9 +1,10 @@
 -- Effects and steps keep each part of the core in its range.
-use Rattle.std.proofs.Common.{ℕ, ◌+◌, ◌*◌, ◌/◌, ◌%◌, ◌-◌, ◌<◌, Bool, true, false, cond, sym, ◌∙◌, arith, subst, All, [], ◌∷◌, length, lit<, Some, None}
+use Rattle.std.proofs.Common.{ℕ, ◌+◌, ◌*◌, ◌/◌, ◌%◌, ◌-◌, ◌<◌, Bool, true, false, cond, ◌≡◌, sym, ap, ◌∙◌, arith, subst, All, [], ◌∷◌, length, lit<, Some, None}
 use Rattle.std.specs.Prelude.{Option, ◌||◌, ◌==◌, nat_lt, nat_le, not}
 use Rattle.std.specs.Option.{option_map}
 use Rattle.std.specs.Int.RustNames.{bit_and, bit_or, bit_xor, count_ones}
 use Rattle.std.proofs.Math.ListN.{length-set}
+use Rattle.std.proofs.lemmas.Option.{none-some, same_Some}
 use Rattle.std.proofs.lemmas.Nat.{and_le_r, or_lt, xor_lt}
 use Rattle.std.proofs.lemmas.List.Elements.{All-set, All-get_or, All-nil, All-cons}
 use Rattle.sp_base.specs.declared.location.Reg.{Reg}
@@ -26,7 +27,7 @@ use Rattle.sp_isa.specs.Arithmetic.{one_if, with_szp, add, compare, subtract, lo
 use Rattle.sp_isa.specs.Stack.{push, flag_byte, with_flag_byte, push_pair, top_to, pop_pair, holds, call, ret, exchange_top, exchange_pairs}
 use Rattle.sp_isa.specs.Effect.{effect}
 use Rattle.sp_isa.specs.Decode.{decode, with_operand, form}
-use Rattle.sp_isa.specs.Step.{after, step, EffectsKeepCores, StepsKeepCores}
+use Rattle.sp_isa.specs.Step.{instr_at, after, step, EffectsKeepCores, StepsKeepCores}
 use Rattle.sp_isa.proofs.Cases.{each_loc}
 
 below_65536 : (v : ℕ) → v % 65536 < 65536
@@ -212,7 +213,7 @@ keep-with_cell a v core low h = record {
 }
 
 -- what the parts of a core in its ranges hold
-low_reg : (r : Reg) (core : Core) → IsCore core → reg_of r core < 256
+pub low_reg : (r : Reg) (core : Core) → IsCore core → reg_of r core < 256
 low_reg reg.B core h = h.locations loc.B
 low_reg reg.C core h = h.locations loc.C
 low_reg reg.D core h = h.locations loc.D
@@ -221,12 +222,12 @@ low_reg reg.H core h = h.locations loc.H
 low_reg reg.L core h = h.locations loc.L
 low_reg reg.A core h = h.locations loc.A
 
-low_cell : (a : ℕ) (core : Core) → IsCore core → cell a core < 256
+pub low_cell : (a : ℕ) (core : Core) → IsCore core → cell a core < 256
 low_cell a core h =
     let within : a % 65536 < length core.cells = subst (λ n. a % 65536 < n) (sym h.memory) (below_65536 a) in
     All-get_or (λ byte. byte < 256) core.cells (a % 65536) 0 within h.bytes
 
-low_arg : (y : Arg) (core : Core) → IsCore core → arg_of y core < 256
+pub low_arg : (y : Arg) (core : Core) → IsCore core → arg_of y core < 256
 low_arg (arg.Reg r) core h = low_reg r core h
 low_arg arg.M core h = low_cell (pair_of pair.H core) core h
 
@@ -374,7 +375,7 @@ keep_choice : (b : Bool) (k m : Core) → IsCore k → IsCore m → IsCore (cond
 keep_choice true k m h g = h
 keep_choice false k m h g = g
 
-only_byte : (n : ℕ) → All (λ byte. byte < 256) (n ∷ []) → n < 256
+pub only_byte : (n : ℕ) → All (λ byte. byte < 256) (n ∷ []) → n < 256
 only_byte n bytes = bytes 0 0 (lit< tt)
 
 -- every row of the table
@@ -437,7 +438,7 @@ two_bytes : (b1 b2 : ℕ) → b1 < 256 → b2 < 256 → All (λ byte. byte < 256
 two_bytes b1 b2 low1 low2 =
     All-cons Low ((b1 + 256 * b2) % 256) ((b1 + 256 * b2) / 256 ∷ []) (omega arith) (one_byte ((b1 + 256 * b2) / 256) (omega arith))
 
-operand_low : (b1 b2 : ℕ) → b1 < 256 → b2 < 256 → (i : Instr) → All (λ byte. byte < 256) (operand (with_operand b1 (b1 + 256 * b2) i).0)
+pub operand_low : (b1 b2 : ℕ) → b1 < 256 → b2 < 256 → (i : Instr) → All (λ byte. byte < 256) (operand (with_operand b1 (b1 + 256 * b2) i).0)
 operand_low b1 b2 low1 low2 (Mvi y n) = one_byte b1 low1
 operand_low b1 b2 low1 low2 (AluImmediate o n) = one_byte b1 low1
 operand_low b1 b2 low1 low2 (In n) = one_byte b1 low1
@@ -462,3 +463,15 @@ unfolding step decode
 steps_keep_cores input core low h =
     keep_choice core.halted _ _ h
     (after_low input (cell (core.pc + 1) core) (cell (core.pc + 2) core) core low (low_cell (core.pc + 1) core h) (low_cell (core.pc + 2) core h) h (form (cell core.pc core)))
+
+-- the operand bytes of what decodes from bytes are bytes
+decoded_bytes : (b1 b2 : ℕ) → b1 < 256 → b2 < 256 → (o : Option Instr) (i : Instr) (n : ℕ) → option_map (with_operand b1 (b1 + 256 * b2)) o ≡ Some (i, n) → All (λ byte. byte < 256) (operand i)
+decoded_bytes b1 b2 low1 low2 None i n e = absurd (none-some (i, n) e)
+decoded_bytes b1 b2 low1 low2 (Some j) i n e =
+    subst (λ j. All (λ byte. byte < 256) (operand j)) (ap (λ (p : Instr × ℕ). p.0) (same_Some _ _ e)) (operand_low b1 b2 low1 low2 j)
+
+-- so are those of the instruction at an address
+pub instr_at_bytes : (a : ℕ) (core : Core) (i : Instr) (n : ℕ) → IsCore core → instr_at a core ≡ Some (i, n) → All (λ byte. byte < 256) (operand i)
+unfolding decode
+instr_at_bytes a core i n h e =
+    decoded_bytes (cell (a + 1) core) (cell (a + 2) core) (low_cell (a + 1) core h) (low_cell (a + 2) core h) (form (cell a core)) i n e

@@ -1,6 +1,7 @@
 -- A step of the machine and a step of the state.
 use Rattle.std.proofs.Common.{◌≡◌, ◌∙◌, sym, ap, ap₂, subst, refl, inl, inr, ℕ, ◌+◌, ◌<◌, ◌≤◌, arith, add-one, below_more, Bool, true, false, true≢false, List, [], ◌++◌, drop, Option, Some, None, is_some, append-nil}
 use Rattle.std.specs.Prelude.{slice_get, unwrap_or, option_to_list, if◌then◌else◌}
+use Rattle.std.specs.Option.{option_map, option_and_then}
 use Rattle.std.proofs.lemmas.Grind.{flat_map-append}
 use Rattle.sp_isa.specs.declared.instr.Instr.{Instr}
 use Rattle.sp_isa.specs.declared.instr.Instr.TheVariants as instr
@@ -10,7 +11,7 @@ use Rattle.sp_isa.specs.Step as core
 use Rattle.sp_machine.specs.Event.{event, event_of, running_event}
 use Rattle.sp_machine.specs.declared.event.Event.{Event}
 use Rattle.sp_machine.specs.declared.event.Event.TheVariants.{Halted}
-use Rattle.sp_model.specs.State.{State, next_instr, next_input, executed_or_stuck, step, run}
+use Rattle.sp_model.specs.State.{State, next_instr, next_input, step, run}
 use Rattle.sp_run.specs.Events.{is_stuck, inputs_after, outputs_of, StepsAreTold}
 use Rattle.sp_run.specs.Texts.{output_line, output_lines}
 use Rattle.sp_run.specs.Run.{HasStopped, EndsAfter}
@@ -39,29 +40,33 @@ never_stuck _ k = refl
 abbrev answer : Bool → Option (Instr × ℕ) → Core → Event
 answer h o k = if h then Halted else running_event o k
 
-same_outputs : (s : State) → ◌≡◌ {A = State} s (record s { outputs = s.outputs ++ [] })
-same_outputs s = ap (λ (o : List (ℕ × ℕ)). record s { outputs = o }) (sym (append-nil s.outputs))
+-- the instruction that is executed, by the same two
+abbrev executes : Bool → Option (Instr × ℕ) → Option Instr
+executes h o = if h then None else option_map (λ p. p.0) o
 
-stepped : (h : Bool) (o : Option (Instr × ℕ)) (s : State) → (if h then s else executed_or_stuck o s) ≡ record {
-  core = if h then s.core else core.after (next_input s) o s.core;
-  inputs = inputs_after (answer h o s.core) s.inputs;
-  outputs = s.outputs ++ outputs_of (answer h o s.core);
-}
-stepped true o s = same_outputs s
-stepped false None s = same_outputs s
-stepped false (Some i) s = λ j. record {
-  core = effect (next_input s) i.0 s.core;
-  inputs = sym (inputs_told i.0 s.core s.inputs) j;
-  outputs = s.outputs ++ sym (outputs_told i.0 s.core) j;
-}
+inputs_by : (h : Bool) (o : Option (Instr × ℕ)) (k : Core) (inputs : List ℕ)
+    → inputs_after (answer h o k) inputs ≡ (if is_some (option_and_then takes_input (executes h o)) then drop 1 inputs else inputs)
+inputs_by true o k inputs = refl
+inputs_by false None k inputs = refl
+inputs_by false (Some i) k inputs = inputs_told i.0 k inputs
+
+outputs_by : (h : Bool) (o : Option (Instr × ℕ)) (k : Core)
+    → outputs_of (answer h o k) ≡ option_to_list (option_and_then (λ i. gives_output i k) (executes h o))
+outputs_by true o k = refl
+outputs_by false None k = refl
+outputs_by false (Some i) k = outputs_told i.0 k
 
 -- the state that a step of the core and its event make
 abbrev told : State → State
 told s = record { core = core.step (next_input s) s.core; inputs = inputs_after (event s.core) s.inputs; outputs = s.outputs ++ outputs_of (event s.core) }
 
 pub steps_are_told : StepsAreTold
-unfolding step core.step event
-steps_are_told s = stepped s.core.halted (next_instr s.core) s
+unfolding step event
+steps_are_told s = λ j. record {
+  core = core.step (next_input s) s.core;
+  inputs = sym (inputs_by s.core.halted (next_instr s.core) s.core s.inputs) j;
+  outputs = s.outputs ++ sym (outputs_by s.core.halted (next_instr s.core) s.core) j;
+}
 
 -- ---- Runs
 
