@@ -3,4 +3,5 @@ pub mod FindLaws
 pub mod ImageLaws
 pub mod LocsLaws
 pub mod PlaceLaws
+pub mod RefusedLemmas
 pub mod IntegerLemmas
