@@ -1,3 +1,4 @@
+pub mod CallLemmas
 pub mod CellLaws
 pub mod FindLaws
 pub mod ImageLaws

@@ -1,10 +1,28 @@
 -- What calls on files and sinks answer.
-use Rattle.std.specs.Prelude.{◌≡◌, ◌⊎◌, ℕ, ◌-◌, ◌^◌, ◌<◌, List, ◌++◌, length, take, Option, Some, None, Result, Ok, Err, Vec, ⊤}
+use Rattle.std.specs.Prelude.{◌≡◌, ◌⊎◌, ℕ, ◌-◌, ◌^◌, ◌<◌, Bool, List, [], ◌∷◌, ◌++◌, length, take, Option, Some, None, Result, Ok, Err, Vec, ⊤}
 use Rattle.std.specs.declared.alloc.Global.{Global}
+use Rattle.sp_base.specs.declared.calls.Outcome.{Outcome}
+use Rattle.sp_base.specs.declared.calls.Outcome.TheVariants as outcome
 use Rattle.sp_base.specs.declared.files.ReadRefusal.{ReadRefusal}
 use Rattle.sp_base.specs.declared.files.ReadRefusal.TheVariants as read
 use Rattle.sp_base.specs.declared.files.WriteRefusal.{WriteRefusal}
 use Rattle.sp_base.specs.declared.files.WriteRefusal.TheVariants as write
+use Rattle.sp_base.specs.Calls.{Call}
+
+-- what contracts see of files: whether they are told what files hold, what the file of each name holds where they are, how often reading and
+-- writing have failed, and the calls so far
+pub record Store : Type 0 where
+  pub told : Bool
+  pub contents : List ℕ → Option (List ℕ)
+  pub read_faults : ℕ
+  pub write_faults : ℕ
+  pub calls : List Call
+
+-- what contracts see of a sink: whether they are told what it took, the bytes that it took where they are, and how often taking has failed
+pub record Output : Type 0 where
+  pub told : Bool
+  pub taken : List ℕ
+  pub faults : ℕ
 
 -- a count of faults rose in a call: it is greater afterwards, or stands where a real counter stays
 abbrev pub Rose : ℕ → ℕ → Type 0
@@ -33,3 +51,21 @@ abbrev pub AnswersPut : List ℕ → List ℕ → Result (Unit {0}) WriteRefusal
 AnswersPut before bytes (Ok _) after = after ≡ before ++ bytes
 AnswersPut before bytes (Err write.Failed) after = (front : List ℕ) × IsFrontOf front bytes × (after ≡ before ++ front)
 AnswersPut before bytes (Err write.Memory) after = after ≡ before
+
+-- how a read ended, by its answer
+abbrev pub read_outcome : Result (Vec ℕ Global) ReadRefusal → Outcome
+read_outcome (Ok bytes) = outcome.Done
+read_outcome (Err read.Missing) = outcome.Missing
+read_outcome (Err read.TooLarge) = outcome.TooLarge
+read_outcome (Err read.Failed) = outcome.Failed
+read_outcome (Err read.Memory) = outcome.Memory
+
+-- how a write ended, by its answer
+abbrev pub write_outcome : Result (Unit {0}) WriteRefusal → Outcome
+write_outcome (Ok _) = outcome.Done
+write_outcome (Err write.Failed) = outcome.Failed
+write_outcome (Err write.Memory) = outcome.Memory
+
+-- a call was added to the calls before it; one that ran out of memory may be left out
+abbrev pub Adds : Call → List Call → List Call → Type 0
+Adds c before after = (after ≡ before ++ c ∷ []) ⊎ ((c.outcome ≡ outcome.Memory) × (after ≡ before))

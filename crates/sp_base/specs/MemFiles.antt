@@ -1,12 +1,24 @@
 -- What files in memory hold, and which of their calls fail.
-use Rattle.std.specs.Prelude.{◌≡◌, ◌≢◌, ℕ, ◌+◌, ◌-◌, ◌^◌, List, Option, Some, option_map, min}
+use Rattle.std.specs.Prelude.{◌≡◌, ◌≢◌, ℕ, ◌+◌, ◌-◌, ◌^◌, true, List, Option, Some, option_map, min}
 use Rattle.std.specs.Ordering.{nat_cmp}
 use Rattle.std.specs.BTreeMap.{get, get_by_text}
+use Rattle.sp_base.specs.Calls.{calls_of}
+use Rattle.sp_base.specs.Files.{Store}
 use Rattle.sp_base.specs.declared.memory_files.MemFiles.{MemFiles}
 
 -- what the file of a name holds
 abbrev pub contents_of : MemFiles → List ℕ → Option (List ℕ)
 contents_of files name = option_map (λ bytes. bytes.items) (get_by_text files.files name)
+
+-- what contracts see of files in memory: they tell what they hold
+abbrev pub store_of : MemFiles → Store
+store_of files = record {
+  told = true;
+  contents = contents_of files;
+  read_faults = files.read_faults;
+  write_faults = files.write_faults;
+  calls = calls_of files.log;
+}
 
 -- how many bytes the call with that number keeps, if it is to fail
 abbrev pub fault_at : MemFiles → ℕ → Option ℕ
@@ -40,6 +52,7 @@ pub record SetsFault (old new : MemFiles) (number kept : ℕ) : Type 0 where
 
 -- no call was counted, and no fault
 pub record SameCounts (old new : MemFiles) : Type 0 where
+  pub log : calls_of new.log ≡ calls_of old.log
   pub calls : new.calls ≡ old.calls
   pub reads : new.read_faults ≡ old.read_faults
   pub writes : new.write_faults ≡ old.write_faults

@@ -1,9 +1,14 @@
 -- Which puts of a sink in memory fail.
-use Rattle.std.specs.Prelude.{◌≡◌, ◌≢◌, ℕ, Option, Some}
+use Rattle.std.specs.Prelude.{◌≡◌, ◌≢◌, ℕ, true, Option, Some}
 use Rattle.std.specs.Ordering.{nat_cmp}
 use Rattle.std.specs.BTreeMap.{get}
+use Rattle.sp_base.specs.Files.{Output}
 use Rattle.sp_base.specs.MemFiles.{one_more}
 use Rattle.sp_base.specs.declared.memory_sink.MemSink.{MemSink}
+
+-- what contracts see of a sink in memory: it tells what it took
+abbrev pub output_of : MemSink → Output
+output_of sink = record { told = true; taken = sink.taken.items; faults = sink.faults }
 
 -- how many bytes the put with that number keeps, if it is to fail
 abbrev pub put_fault_at : MemSink → ℕ → Option ℕ

@@ -1,6 +1,8 @@
-ghost use Rattle.std.specs.Prelude.{◌≡◌, ◌≢◌, ℕ, ◌≤◌, Bool, List, Option, IfOk, IsTrue, IsErrOf, vec_len};
-ghost use Rattle.sp_base.specs.Files.{Rose, AnswersRead, AnswersWrite, AnswersPut};
+ghost use Rattle.std.specs.Prelude.{◌≡◌, ◌≢◌, ℕ, ◌≤◌, List, IfOk, IsTrue, IsErrOf, vec_len};
+ghost use Rattle.sp_base.specs.Calls.{call};
+ghost use Rattle.sp_base.specs.Files.{Store, Output, Rose, AnswersRead, AnswersWrite, AnswersPut, read_outcome, write_outcome, Adds};
 
+use crate::Access;
 use std::alloc::{AllocError, AllocFailed, Global};
 use thiserror::Error;
 
@@ -65,54 +67,42 @@ impl<T: Drop> From<AllocFailed<T>> for WriteRefusal {
 
 /// The files that a command reads and writes, by name.
 pub trait Files {
-    /// Whether contracts are told what the files hold. Files in memory tell; those of the system don't.
-    ghost tells: { Self → Bool };
-
-    /// What the file of a name holds, if there is one, where it is told.
-    ghost contents: { Self → List ℕ → Option (List ℕ) };
-
-    /// How often reading has failed. The count never falls, and stays at the greatest `u64`.
-    ghost read_faults: { Self → ℕ };
-
-    /// How often writing has failed. The count never falls, and stays at the greatest `u64`.
-    ghost write_faults: { Self → ℕ };
+    /// What contracts see of the files. Files in memory tell what they hold; those of the system don't. The counts of
+    /// faults never fall, and stay at the greatest `u64`.
+    ghost store: { Self → Store };
 
     /// The whole file of a name, of at most `limit` bytes. No file changes.
     fn read(&mut self, alloc: Global, name: &str, limit: usize) -> Result<Vec<u8>, ReadRefusal>
-        ensures answer { IsTrue (tells self.old) → AnswersRead (contents self.old name.now) limit result }
+        ensures answer { IsTrue (store self.old).told → AnswersRead ((store self.old).contents name.now) limit result }
         ensures within { IfOk result (λ bytes. vec_len bytes ≤ limit) }
-        ensures files { (q : List ℕ) → contents self.new q ≡ contents self.old q }
-        ensures told { tells self.new ≡ tells self.old }
-        ensures failed { IsErrOf result ReadRefusal.Failed → Rose (read_faults self.old) (read_faults self.new) }
-        ensures missing { IsErrOf result ReadRefusal.Missing → read_faults self.new ≡ read_faults self.old }
-        ensures later { read_faults self.old ≤ read_faults self.new }
-        ensures writes { write_faults self.new ≡ write_faults self.old };
+        ensures files { (q : List ℕ) → (store self.new).contents q ≡ (store self.old).contents q }
+        ensures told { (store self.new).told ≡ (store self.old).told }
+        ensures failed { IsErrOf result ReadRefusal.Failed → Rose (store self.old).read_faults (store self.new).read_faults }
+        ensures missing { IsErrOf result ReadRefusal.Missing → (store self.new).read_faults ≡ (store self.old).read_faults }
+        ensures later { (store self.old).read_faults ≤ (store self.new).read_faults }
+        ensures writes { (store self.new).write_faults ≡ (store self.old).write_faults }
+        ensures calls { Adds (call Access.Read name.now (read_outcome result)) (store self.old).calls (store self.new).calls };
 
     /// Makes the file of a name, or replaces what it holds. No other file changes.
     fn write(&mut self, name: &str, bytes: &[u8]) -> Result<(), WriteRefusal>
-        ensures answer { IsTrue (tells self.old) → AnswersWrite (contents self.old name.now) bytes.now result (contents self.new name.now) }
-        ensures others { (q : List ℕ) → q ≢ name.now → contents self.new q ≡ contents self.old q }
-        ensures told { tells self.new ≡ tells self.old }
-        ensures failed { IsErrOf result WriteRefusal.Failed → Rose (write_faults self.old) (write_faults self.new) }
-        ensures later { write_faults self.old ≤ write_faults self.new }
-        ensures reads { read_faults self.new ≡ read_faults self.old };
+        ensures answer { IsTrue (store self.old).told → AnswersWrite ((store self.old).contents name.now) bytes.now result ((store self.new).contents name.now) }
+        ensures others { (q : List ℕ) → q ≢ name.now → (store self.new).contents q ≡ (store self.old).contents q }
+        ensures told { (store self.new).told ≡ (store self.old).told }
+        ensures failed { IsErrOf result WriteRefusal.Failed → Rose (store self.old).write_faults (store self.new).write_faults }
+        ensures later { (store self.old).write_faults ≤ (store self.new).write_faults }
+        ensures reads { (store self.new).read_faults ≡ (store self.old).read_faults }
+        ensures calls { Adds (call Access.Write name.now (write_outcome result)) (store self.old).calls (store self.new).calls };
 }
 
 /// Where a command puts its text.
 pub trait Sink {
-    /// Whether contracts are told what was taken.
-    ghost tells: { Self → Bool };
-
-    /// The bytes taken so far, where they are told.
-    ghost taken: { Self → List ℕ };
-
-    /// How often taking has failed. The count never falls, and stays at the greatest `u64`.
-    ghost faults: { Self → ℕ };
+    /// What contracts see of the sink. The count of faults never falls, and stays at the greatest `u64`.
+    ghost output: { Self → Output };
 
     /// Appends the bytes.
     fn put(&mut self, bytes: &[u8]) -> Result<(), WriteRefusal>
-        ensures answer { IsTrue (tells self.old) → AnswersPut (taken self.old) bytes.now result (taken self.new) }
-        ensures told { tells self.new ≡ tells self.old }
-        ensures failed { IsErrOf result WriteRefusal.Failed → Rose (faults self.old) (faults self.new) }
-        ensures later { faults self.old ≤ faults self.new };
+        ensures answer { IsTrue (output self.old).told → AnswersPut (output self.old).taken bytes.now result (output self.new).taken }
+        ensures told { (output self.new).told ≡ (output self.old).told }
+        ensures failed { IsErrOf result WriteRefusal.Failed → Rose (output self.old).faults (output self.new).faults }
+        ensures later { (output self.old).faults ≤ (output self.new).faults };
 }

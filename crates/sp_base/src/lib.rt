@@ -2,6 +2,7 @@
 //! and the outside world as files and a sink, each with an implementation in memory.
 #![tactic(auto)]
 
+mod calls;
 mod files;
 mod image;
 mod laws;
@@ -16,6 +17,7 @@ mod pair;
 mod refused;
 mod seq;
 
+pub use calls::{Access, CallLog, FileCall, Outcome};
 pub use files::{Files, ReadRefusal, Sink, WriteRefusal};
 pub use image::Image;
 pub use laws::{division_rounds_down, low_bytes_are_remainders, ranges_are_tested, sums_add_up};

@@ -1,9 +1,10 @@
-ghost use Rattle.std.specs.Prelude.{◌≡◌, ◌≢◌, ℕ, ◌+◌, ◌-◌, ◌^◌, ◌≤◌, ◌↔◌, List, Some, None, Option, true, MatchOption, if◌then◌else◌, is_some, IfOk, IfSome, OnOk, OnErr, IsTrue, IsSome, IsErr, IsErrOf, vec_len, string_bytes, option_copied, option_map, min, take};
+ghost use Rattle.std.specs.Prelude.{◌≡◌, ◌≢◌, ℕ, ◌+◌, ◌-◌, ◌^◌, ◌≤◌, ◌↔◌, List, [], Some, None, Option, true, MatchOption, if◌then◌else◌, is_some, IfOk, IfSome, OnOk, OnErr, IsTrue, IsSome, IsErr, IsErrOf, vec_len, string_bytes, option_copied, option_map, min, take};
 ghost use Rattle.std.specs.BTreeMap.{get_by_text};
-ghost use Rattle.sp_base.specs.Files.{Rose, AnswersRead, AnswersWrite};
+ghost use Rattle.sp_base.specs.Calls.{call, calls_of};
+ghost use Rattle.sp_base.specs.Files.{Rose, AnswersRead, AnswersWrite, read_outcome, write_outcome, Adds};
 ghost use Rattle.sp_base.specs.MemFiles.{contents_of, fault_at, next_number, one_more, SameFiles, ChangesFile, SameCounts, SameFaults, SetsFault};
 
-use crate::{Files, Memory, ReadRefusal, WriteRefusal};
+use crate::{Access, CallLog, Files, Memory, Outcome, ReadRefusal, WriteRefusal};
 use std::alloc::{AllocError, Global};
 use std::collections::BTreeMap;
 
@@ -13,6 +14,7 @@ pub struct MemFiles {
     alloc: Global,
     files: BTreeMap<String, Vec<u8>>,
     failing: BTreeMap<u64, usize>,
+    log: CallLog,
     calls: u64,
     read_faults: u64,
     write_faults: u64,
@@ -23,6 +25,7 @@ impl MemFiles {
     pub fn new(alloc: Global) -> MemFiles
         ensures files { (q : List ℕ) → contents_of result q ≡ None }
         ensures failing { (n : ℕ) → fault_at result n ≡ None }
+        ensures log { calls_of result.log ≡ [] }
         ensures calls { result.calls ≡ 0 }
         ensures reads { result.read_faults ≡ 0 }
         ensures writes { result.write_faults ≡ 0 }
@@ -31,6 +34,7 @@ impl MemFiles {
             alloc,
             files: BTreeMap::new(alloc),
             failing: BTreeMap::new(alloc),
+            log: CallLog::new(alloc),
             calls: 0,
             read_faults: 0,
             write_faults: 0,
@@ -100,58 +104,36 @@ fn store(
     Ok(())
 }
 
-impl Files for MemFiles {
-    ghost use Rattle.std.specs.Prelude.{true};
-    ghost use Rattle.sp_base.specs.MemFiles.{contents_of};
-
-    ghost tells = { λ _. true };
-
-    ghost contents = { contents_of };
-
-    ghost read_faults = { λ files. files.read_faults };
-
-    ghost write_faults = { λ files. files.write_faults };
-
+impl MemFiles {
+    /// Reads, as a call that has begun.
     #[tactic(auto, using(std::proofs::lemmas::Map::Text::text_keys))]
-    fn read(&mut self, alloc: Global, name: &str, limit: usize) -> Result<Vec<u8>, ReadRefusal>
+    fn read_file(&mut self, alloc: Global, name: &str, limit: usize) -> Result<Vec<u8>, ReadRefusal>
         ensures answer { AnswersRead (contents_of self.old name.now) limit result }
         ensures within { IfOk result (λ bytes. vec_len bytes ≤ limit) }
-        ensures files { (q : List ℕ) → contents_of self.new q ≡ contents_of self.old q }
-        ensures told { true ≡ true }
+        ensures files { SameFiles self.old self.new }
         ensures failed { IsErrOf result ReadRefusal.Failed → Rose self.old.read_faults self.new.read_faults }
-        ensures missing { IsErrOf result ReadRefusal.Missing → self.new.read_faults ≡ self.old.read_faults }
-        ensures later { self.old.read_faults ≤ self.new.read_faults }
-        ensures writes { self.new.write_faults ≡ self.old.write_faults }
-
-        // It fails exactly where it is to fail, and counts that.
         ensures fails { IsErrOf result ReadRefusal.Failed ↔ IsSome (fault_at self.old (next_number self.old)) }
         ensures count { self.new.read_faults ≡ (if is_some (fault_at self.old (next_number self.old)) then one_more self.old.read_faults else self.old.read_faults) }
+        ensures later { self.old.read_faults ≤ self.new.read_faults }
+        ensures writes { self.new.write_faults ≡ self.old.write_faults }
         ensures number { self.new.calls ≡ next_number self.old }
         ensures failing { SameFaults self.old self.new }
+        ensures log { self.new.log ≡ self.old.log }
     {
         if self.begin().is_some() {
             self.read_faults = self.read_faults.saturating_add(1);
             return Err(ReadRefusal::Failed);
         }
-        let Some(bytes) = self.files.get(name) else {
-            return Err(ReadRefusal::Missing);
-        };
-        if bytes.len() > limit {
-            return Err(ReadRefusal::TooLarge);
-        }
-        Ok(bytes.to_vec(alloc)?)
+        bytes_of(alloc, &self.files, name, limit)
     }
 
-    #[tactic(auto, using(std::proofs::lemmas::Map::Text::text_keys))]
-    fn write(&mut self, name: &str, bytes: &[u8]) -> Result<(), WriteRefusal>
+    /// Writes, as a call that has begun.
+    fn write_file(&mut self, name: &str, bytes: &[u8]) -> Result<(), WriteRefusal>
         ensures answer { AnswersWrite (contents_of self.old name.now) bytes.now result (contents_of self.new name.now) }
         ensures others { (q : List ℕ) → q ≢ name.now → contents_of self.new q ≡ contents_of self.old q }
-        ensures told { true ≡ true }
         ensures failed { IsErrOf result WriteRefusal.Failed → Rose self.old.write_faults self.new.write_faults }
         ensures later { self.old.write_faults ≤ self.new.write_faults }
         ensures reads { self.new.read_faults ≡ self.old.read_faults }
-
-        // It fails only where it is to fail, keeps that many bytes, and counts that.
         ensures fails { MatchOption (fault_at self.old (next_number self.old))
             (¬ IsErrOf result WriteRefusal.Failed)
             (λ kept. IsErr result × (IsErrOf result WriteRefusal.Failed → contents_of self.new name.now ≡ Some (take kept bytes.now))) }
@@ -159,6 +141,7 @@ impl Files for MemFiles {
         ensures uncounted { ¬ IsErrOf result WriteRefusal.Failed → self.new.write_faults ≡ self.old.write_faults }
         ensures number { self.new.calls ≡ next_number self.old }
         ensures failing { SameFaults self.old self.new }
+        ensures log { self.new.log ≡ self.old.log }
     {
         match self.begin() {
             None => {
@@ -172,5 +155,82 @@ impl Files for MemFiles {
                 Err(WriteRefusal::Failed)
             }
         }
+    }
+}
+
+/// The bytes of a file, where there is one of at most `limit` bytes.
+#[tactic(auto, using(std::proofs::lemmas::Map::Text::text_keys))]
+fn bytes_of(
+    alloc: Global,
+    files: &BTreeMap<String, Vec<u8>>,
+    name: &str,
+    limit: usize,
+) -> Result<Vec<u8>, ReadRefusal>
+    ensures answer { AnswersRead (option_map (λ v. v.items) (get_by_text files.now name.now)) limit result }
+    ensures within { IfOk result (λ bytes. vec_len bytes ≤ limit) }
+    ensures no_fault { ¬ IsErrOf result ReadRefusal.Failed }
+{
+    let Some(bytes) = files.get(name) else {
+        return Err(ReadRefusal::Missing);
+    };
+    if bytes.len() > limit {
+        return Err(ReadRefusal::TooLarge);
+    }
+    Ok(bytes.to_vec(alloc)?)
+}
+
+impl Files for MemFiles {
+    ghost use Rattle.sp_base.specs.MemFiles.{store_of};
+
+    ghost store = { store_of };
+
+    fn read(&mut self, alloc: Global, name: &str, limit: usize) -> Result<Vec<u8>, ReadRefusal>
+        ensures answer { AnswersRead (contents_of self.old name.now) limit result }
+        ensures within { IfOk result (λ bytes. vec_len bytes ≤ limit) }
+        ensures files { (q : List ℕ) → contents_of self.new q ≡ contents_of self.old q }
+        ensures told { true ≡ true }
+        ensures failed { IsErrOf result ReadRefusal.Failed → Rose self.old.read_faults self.new.read_faults }
+        ensures missing { IsErrOf result ReadRefusal.Missing → self.new.read_faults ≡ self.old.read_faults }
+        ensures later { self.old.read_faults ≤ self.new.read_faults }
+        ensures writes { self.new.write_faults ≡ self.old.write_faults }
+        ensures calls { Adds (call Access.Read name.now (read_outcome result)) (calls_of self.old.log) (calls_of self.new.log) }
+
+        // It fails only where it is to fail, and counts that.
+        ensures fails { MatchOption (fault_at self.old (next_number self.old)) (¬ IsErrOf result ReadRefusal.Failed) (λ kept. IsErr result) }
+        ensures count { IsErrOf result ReadRefusal.Failed → self.new.read_faults ≡ one_more self.old.read_faults }
+        ensures uncounted { ¬ IsErrOf result ReadRefusal.Failed → ¬ IsErrOf result ReadRefusal.Memory → self.new.read_faults ≡ self.old.read_faults }
+        ensures failing { SameFaults self.old self.new }
+    {
+        if self.log.begin(Access::Read, name).is_err() {
+            return Err(ReadRefusal::Memory);
+        }
+        let answer = self.read_file(alloc, name, limit);
+        self.log.end(Outcome::of_read(&answer));
+        answer
+    }
+
+    fn write(&mut self, name: &str, bytes: &[u8]) -> Result<(), WriteRefusal>
+        ensures answer { AnswersWrite (contents_of self.old name.now) bytes.now result (contents_of self.new name.now) }
+        ensures others { (q : List ℕ) → q ≢ name.now → contents_of self.new q ≡ contents_of self.old q }
+        ensures told { true ≡ true }
+        ensures failed { IsErrOf result WriteRefusal.Failed → Rose self.old.write_faults self.new.write_faults }
+        ensures later { self.old.write_faults ≤ self.new.write_faults }
+        ensures reads { self.new.read_faults ≡ self.old.read_faults }
+        ensures calls { Adds (call Access.Write name.now (write_outcome result)) (calls_of self.old.log) (calls_of self.new.log) }
+
+        // It fails only where it is to fail, keeps that many bytes, and counts that.
+        ensures fails { MatchOption (fault_at self.old (next_number self.old))
+            (¬ IsErrOf result WriteRefusal.Failed)
+            (λ kept. IsErr result × (IsErrOf result WriteRefusal.Failed → contents_of self.new name.now ≡ Some (take kept bytes.now))) }
+        ensures count { IsErrOf result WriteRefusal.Failed → self.new.write_faults ≡ one_more self.old.write_faults }
+        ensures uncounted { ¬ IsErrOf result WriteRefusal.Failed → self.new.write_faults ≡ self.old.write_faults }
+        ensures failing { SameFaults self.old self.new }
+    {
+        if self.log.begin(Access::Write, name).is_err() {
+            return Err(WriteRefusal::Memory);
+        }
+        let answer = self.write_file(name, bytes);
+        self.log.end(Outcome::of_write(&answer));
+        answer
     }
 }

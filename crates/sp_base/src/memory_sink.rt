@@ -62,13 +62,9 @@ impl MemSink {
 }
 
 impl Sink for MemSink {
-    ghost use Rattle.std.specs.Prelude.{true};
+    ghost use Rattle.sp_base.specs.MemSink.{output_of};
 
-    ghost tells = { λ _. true };
-
-    ghost taken = { λ sink. sink.taken.items };
-
-    ghost faults = { λ sink. sink.faults };
+    ghost output = { output_of };
 
     fn put(&mut self, bytes: &[u8]) -> Result<(), WriteRefusal>
         ensures answer { AnswersPut self.old.taken.items bytes.now result self.new.taken.items }
