@@ -21,11 +21,7 @@ impl<'a, R: Print> RealSink<'a, R> {
 impl<R: Print> Sink for RealSink<'_, R> {
     ghost use Rattle.std.specs.Prelude.{false, []};
 
-    ghost tells = { λ _. false };
-
-    ghost taken = { λ _. [] };
-
-    ghost faults = { λ sink. sink.faults };
+    ghost output = { λ sink. record { told = false; taken = []; faults = sink.faults } };
 
     fn put(&mut self, bytes: &[u8]) -> Result<(), WriteRefusal> {
         if print_all(self.rt, bytes) {

@@ -1,7 +1,6 @@
 //! The files of the system and a sink over one, in the folder that a test starts in.
-use crate::real_files::RealFiles;
-use crate::real_sink::RealSink;
 use sp_base::{Files, ReadRefusal, Sink, WriteRefusal};
+use sp_outside::{RealFiles, RealSink};
 use std::fmt::Display;
 use std::fs::OpenOptions;
 use std::io::Write;

@@ -1,5 +1,5 @@
 use Rattle.std.proofs.Common.{◌-◌, ◌≤◌, length, vec_len}
-use Rattle.space8080.proofs.real_files.read_all.Given as goal
+use Rattle.sp_outside.proofs.real_files.read_all.Given as goal
 
 abbrev pub invariant-loop-n : goal.invariant-loop-n
 invariant-loop-n g l = vec_len l.bytes ≤ l.limit

@@ -1,5 +1,5 @@
 use Rattle.std.proofs.Common.{length}
-use Rattle.space8080.proofs.real_files.write_all.Given as goal
+use Rattle.sp_outside.proofs.real_files.write_all.Given as goal
 
 abbrev pub decreases-loop-rest : goal.decreases-loop-rest
 decreases-loop-rest g l = length l.rest
