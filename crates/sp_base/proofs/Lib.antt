@@ -2,6 +2,7 @@ pub mod CallLemmas
 pub mod CellLaws
 pub mod FindLaws
 pub mod ImageLaws
+pub mod LineLemmas
 pub mod LocsLaws
 pub mod PlaceLaws
 pub mod RefusedLemmas

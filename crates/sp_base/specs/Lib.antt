@@ -3,6 +3,8 @@ pub mod Cells
 pub mod Files
 pub mod Image
 pub mod Integers
+pub mod Limits
+pub mod Lines
 pub mod Location
 pub mod Locs
 pub mod MemFiles

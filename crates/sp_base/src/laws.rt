@@ -1,4 +1,4 @@
-//! What holds of whole numbers alone, as contracts of functions that do nothing.
+//! What holds of whole numbers, of lines of texts and of answers alone, as contracts of functions that do nothing.
 
 ghost use Rattle.std.specs.Prelude.{◌≡◌, ◌≢◌, ℕ, ◌<◌, ℤ, pos, negsuc, ◌+ℤ◌, ◌<ℤ◌, ◌≤ℤ◌, ◌↔◌, Bool, IsTrue};
 ghost use Rattle.sp_base.specs.Integers.{
@@ -14,6 +14,10 @@ ghost use Rattle.sp_base.specs.Integers.{
   all_between,
   some_between,
 };
+ghost use Rattle.std.specs.Prelude.{ℕ, ◌-◌, List, [], ◌∷◌, Ok, Err, Some, slice_get};
+ghost use Rattle.std.specs.Str.Lines.{lines as text_lines};
+ghost use Rattle.sp_base.specs.Lines.{Row, rows_of, AreRowsOf, HasLine, lines};
+ghost use Rattle.sp_base.specs.Refused.{Answers, IsComplete, at_line};
 
 /// A quotient and its remainder make the number again, and the remainder lies between 0 and the divisor. By 0 both
 /// are 0.
@@ -50,4 +54,35 @@ pub fn ranges_are_tested()
         ((z : ℤ) → low ≤ℤ z → z ≤ℤ high → IsTrue (p z)) }
     ensures some { (p : ℤ → Bool) (low high : ℤ) → IsTrue (some_between p low high) ↔
         ((z : ℤ) × (low ≤ℤ z) × (z ≤ℤ high) × IsTrue (p z)) }
+{}
+
+/// A text has rows, and no others have its bytes; its lines are those of Rust's `str::lines`.
+pub fn texts_have_rows()
+    ensures made { (text : List ℕ) → AreRowsOf text (rows_of text) }
+    ensures only { (text : List ℕ) (rows : List Row) → AreRowsOf text rows → rows ≡ rows_of text }
+    ensures usual { (text : List ℕ) → lines text ≡ text_lines text }
+    // CR and LF end a line, and LF alone; any other CR is a byte of its line. The last line may have no end.
+    ensures ends { lines (65 ∷ 13 ∷ 10 ∷ 66 ∷ 10 ∷ []) ≡ (65 ∷ []) ∷ (66 ∷ []) ∷ [] }
+    ensures bare { lines (65 ∷ 13 ∷ 66 ∷ 13 ∷ []) ≡ (65 ∷ 13 ∷ 66 ∷ 13 ∷ []) ∷ [] }
+    ensures unended { lines (65 ∷ 10 ∷ 66 ∷ []) ≡ (65 ∷ []) ∷ (66 ∷ []) ∷ [] }
+    ensures blank { lines (10 ∷ 10 ∷ []) ≡ [] ∷ [] ∷ [] }
+{}
+
+/// The lines of a text are numbered from 1 on, and each number has one line.
+pub fn lines_have_numbers()
+    ensures place { (text : List ℕ) (number : ℕ) (line : List ℕ) → HasLine text number line
+        → slice_get (lines text) (number - 1) ≡ Some line }
+    ensures first { (text line : List ℕ) (more : List (List ℕ)) → lines text ≡ line ∷ more → HasLine text 1 line }
+    ensures least { (text line : List ℕ) → ¬ HasLine text 0 line }
+{}
+
+/// What an answer says of a layer in which 7 alone is right, and kind 5 on line 2 the one cause of a refusal.
+pub fn answers_have_meanings()
+    ensures given { (n : ℕ) → Answers {K = ℕ} (λ m. m ≡ 7) (λ l k. (l ≡ 2) × (k ≡ 5)) (Ok n) ↔ (n ≡ 7) }
+    ensures refuses { (line kind : ℕ) → Answers {A = ℕ} (λ m. m ≡ 7) (λ l k. (l ≡ 2) × (k ≡ 5)) (Err (at_line line kind))
+        ↔ ((line ≡ 2) × (kind ≡ 5)) }
+    // Where 7 is right, no other value is a complete answer; where the cause is there, no other refusal is.
+    ensures whole { (n : ℕ) → IsComplete {K = ℕ} (λ m. m ≡ 7) (λ _ _. ⊥) (Ok n) ↔ (n ≡ 7) }
+    ensures exact { (line kind : ℕ) → IsComplete {A = ℕ} (λ _. ⊥) (λ l k. (l ≡ 2) × (k ≡ 5)) (Err (at_line line kind))
+        ↔ ((line ≡ 2) × (kind ≡ 5)) }
 {}

@@ -15,12 +15,16 @@ mod memory_sink;
 mod name;
 mod pair;
 mod refused;
+mod rows;
 mod seq;
 
 pub use calls::{Access, CallLog, FileCall, Outcome};
 pub use files::{Files, ReadRefusal, Sink, WriteRefusal};
 pub use image::Image;
-pub use laws::{division_rounds_down, low_bytes_are_remainders, ranges_are_tested, sums_add_up};
+pub use laws::{
+    answers_have_meanings, division_rounds_down, lines_have_numbers, low_bytes_are_remainders,
+    ranges_are_tested, sums_add_up, texts_have_rows,
+};
 pub use line::Line;
 pub use location::{Loc, Reg};
 pub use locs::Locs;
@@ -30,6 +34,7 @@ pub use memory_sink::MemSink;
 pub use name::Name;
 pub use pair::Pair;
 pub use refused::Refused;
+pub use rows::{Row, first_row};
 pub use seq::Seq;
 
 #[cfg(test)]
