@@ -1,14 +1,15 @@
 -- Putting the bytes of a record into an image, one after another.
-use Rattle.std.proofs.Common.{◌≡◌, ℕ, ◌+◌, ◌<◌, ◌≤◌, true, false, cond, List, ◌∷◌, length, get_or, drop, sym, ap, ◌∙◌, Option, Some, None, inl, inr, rules, true≢false, add-one, drop-cons}
+use Rattle.std.proofs.Common.{◌≡◌, ℕ, ◌+◌, ◌<◌, ◌≤◌, Bool, true, false, refl, cond, List, ◌∷◌, length, get_or, drop, sym, ap, ◌∙◌, Option, Some, None, inl, inr, rules, true≢false, add-one, drop-cons}
 use Rattle.std.proofs.Math.ListN.{drop_of_length-le}
 use Rattle.std.specs.Option.{is_some}
 use Rattle.std.specs.Ordering.{nat_cmp}
 use Rattle.std.specs.Cmp.{nat_cmp_total}
 use Rattle.std.specs.Ordering.{eq_by_cmp}
-use Rattle.std.proofs.lemmas.Bool.{cases_Bool}
+use Rattle.std.proofs.lemmas.Bool.{cases_Bool, cond_both}
 use Rattle.std.specs.FinMap as maps
+use Rattle.std.specs.FinMap.{nat_cmp-IsAntisymmetric}
 use Rattle.sp_base.specs.Image.{ImageMap}
-use Rattle.sp_base.specs.Cells.{placed, Keeps}
+use Rattle.sp_base.specs.Cells.{placed, Keeps, IsAdded}
 
 next_byte : (bytes : List ℕ) (i : ℕ) → i < length bytes → drop i bytes ≡ get_or bytes i 0 ∷ drop (i + 1) bytes
 next_byte bytes i lt = rw add-one (drop-cons bytes i 0 lt)
@@ -42,3 +43,24 @@ keeps_more old image a byte keeps free q b there =
           absurd (true≢false (sym there_too ∙ free))
       | inr other ↦ maps.get-insert nat_cmp_total image a byte q ∙ ap (λ t. cond t (Some byte) (maps.get image q)) other ∙ keeps q b there
     ]
+
+-- a byte that took the place of another, and gave it back
+pub put_back : (image : ImageMap) (a byte old : ℕ) → maps.get image a ≡ Some old → maps.insert (maps.insert image a byte) a old ≡ image
+put_back image a byte old there = maps.same_map nat_cmp_total nat_cmp-IsAntisymmetric _ _ (λ q.
+    maps.get-insert nat_cmp_total (maps.insert image a byte) a old q ∙ ap (cond (eq_by_cmp nat_cmp q a) (Some old)) (maps.get-insert nat_cmp_total image a byte q)
+    ∙ cond_both (eq_by_cmp nat_cmp q a) (Some old) (cond (eq_by_cmp nat_cmp q a) (Some byte) (maps.get image q)) (λ o. o ≡ maps.get image q)
+    (λ same. sym (ap (maps.get image) (same_key q a same) ∙ there))
+    (λ other. ap (λ b. cond b (Some byte) (maps.get image q)) other))
+
+pub no_key : (o : Option ℕ) → ((x : ℕ) → o ≡ Some x → ⊥) → is_some o ≡ false
+no_key None h = refl
+no_key (Some x) h = absurd (h x refl)
+
+module _ (old new : ImageMap) (a byte : ℕ) where
+  pub added_none : (added : Bool) → added ≡ false → IsAdded added old a byte new → (maps.contains_key old a ≡ true) × (new ≡ old)
+  added_none false e h = h
+  added_none true e h = absurd cc
+
+  pub added_one : (added : Bool) → added ≡ true → IsAdded added old a byte new → (maps.contains_key old a ≡ false) × (new ≡ maps.insert old a byte)
+  added_one true e h = h
+  added_one false e h = absurd cc

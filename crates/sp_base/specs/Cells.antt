@@ -23,6 +23,11 @@ unfoldable pub placed : ℕ → List ℕ → ImageMap → Option ImageMap
 placed a [] image = Some image
 placed a (byte ∷ bytes) image = if maps.contains_key image a then None else placed (a + 1) bytes (maps.insert image a byte)
 
+-- what adding a byte at an address answered, and the images before and after it: it is put where the address has none
+abbrev pub IsAdded : Bool → ImageMap → ℕ → ℕ → ImageMap → Type 0
+IsAdded true old a byte new = (maps.contains_key old a ≡ false) × (new ≡ maps.insert old a byte)
+IsAdded false old a byte new = (maps.contains_key old a ≡ true) × (new ≡ old)
+
 -- what placing bytes answered, and the image that it left
 abbrev pub IsPlaced : Bool → ImageMap → Option ImageMap → Type 0
 IsPlaced true image read = read ≡ Some image

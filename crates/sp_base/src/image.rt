@@ -1,11 +1,13 @@
 ghost use Rattle.std.specs.Prelude.{◌≡◌, ◌<◌, ◌≤◌, ◌+◌, ℕ, length, OnOk, OnErr, IfOk, IfSome, IfNone, Some, None};
 ghost use Rattle.std.specs.FinMap as maps;
-ghost use Rattle.sp_base.specs.Cells.{IsPlaced, Keeps, placed};
+ghost use Rattle.std.specs.Map.Iter.{ShowsInOrder, deref_pair};
+ghost use Rattle.sp_base.specs.Cells.{IsAdded, IsPlaced, Keeps, placed};
 ghost use Rattle.sp_base.specs.Image.{ImageMap, IsInMemory, NextByte, NoByteFrom};
 
 use crate::Memory;
 use std::alloc::Global;
 use std::collections::BTreeMap;
+use std::collections::btree_map::Iter;
 use std::marker::Model;
 
 /// A memory image: bytes at some of the addresses 0 to 65,535. Contracts see the finite map from address to byte.
@@ -47,6 +49,18 @@ impl Image {
         Ok(())
     }
 
+    /// Puts a byte at an address that has none, and says whether it did.
+    pub fn add(&mut self, a: u16, byte: u8) -> Result<bool, Memory>
+        ensures ok { IfOk result (λ added. IsAdded added self.old a byte self.new) }
+        ensures err { OnErr result (self.new ≡ self.old) }
+    {
+        if let Some(old) = self.bytes.insert(a, byte)? {
+            self.bytes.insert(a, old)?;
+            return Ok(false);
+        }
+        Ok(true)
+    }
+
     /// Puts bytes at successive addresses from this one on, and says whether none of them had a byte. Where one had, or
     /// memory ran out, only those before it were put.
     pub fn place(&mut self, a: u16, bytes: &[u8]) -> Result<bool, Memory>
@@ -56,11 +70,9 @@ impl Image {
     {
         let mut at = u32::from(a);
         for byte in bytes {
-            let here = at as u16;
-            if self.get(here).is_some() {
+            if !self.add(at as u16, *byte)? {
                 return Ok(false);
             }
-            self.set(here, *byte)?;
             at += 1;
         }
         Ok(true)
@@ -95,5 +107,22 @@ impl Image {
             Some((a, byte)) => Some((*a, *byte)),
             None => None,
         }
+    }
+
+    /// The bytes by rising address, each with its address.
+    pub fn cells(&self) -> Iter<'_, u16, u8>
+        ensures rest { result ≡ maps.entries self.now }
+        ensures runs { ShowsInOrder (deref_pair {K = ℕ} {X = ℕ}) }
+        ensures in_memory { IsInMemory self.now }
+    {
+        self.bytes.iter()
+    }
+
+    /// An image with the same bytes.
+    pub fn copy(&self) -> Result<Image, Memory>
+        ensures { IfOk result (λ image. image ≡ self.now) }
+    {
+        let bytes = self.bytes.clone()?;
+        Ok(Image { bytes })
     }
 }
