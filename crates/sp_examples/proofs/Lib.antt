@@ -1,0 +1,11 @@
+pub mod AloneLemmas
+pub mod EntryLemmas
+pub mod GateLemmas
+pub mod GoodLemmas
+pub mod KeepsLemmas
+pub mod LoadLemmas
+pub mod PortLemmas
+pub mod PushLemmas
+pub mod RunLemmas
+pub mod StoreLemmas
+pub mod WriteLemmas

@@ -1,0 +1,46 @@
+-- States in which the runs of the examples begin.
+use Rattle.std.specs.Prelude.{ℕ, true, false, List, [], ◌∷◌, replicate, slice_set}
+use Rattle.sp_model.specs.State.{State}
+
+-- a memory of zeros
+unfoldable pub zeros : List ℕ
+zeros = replicate 65536 0
+
+-- a memory with these bytes, each with its address, and zeros else
+unfoldable pub memory_of : List (ℕ × ℕ) → List ℕ
+memory_of [] = zeros
+memory_of (c ∷ cells) = slice_set (memory_of cells) c.0 c.1
+
+-- the machine with these bytes in memory, at an address, with this stack pointer: B to A have 1 to 7, the flags are 0,
+-- no input is to come, and nothing was put out
+abbrev pub ready : List (ℕ × ℕ) → ℕ → ℕ → State
+ready cells pc sp = record {
+  core = record {
+    b = 1;
+    c = 2;
+    d = 3;
+    e = 4;
+    h = 5;
+    l = 6;
+    a = 7;
+    s = 0;
+    z = 0;
+    ac = 0;
+    p = 0;
+    cy = 0;
+    sp = sp;
+    pc = pc;
+    halted = false;
+    cells = memory_of cells;
+  };
+  inputs = [];
+  outputs = [];
+}
+
+-- the state, halted
+abbrev pub stopped : State → State
+stopped s = record s { core = record s.core { halted = true } }
+
+-- the state with one byte still to come at the ports
+abbrev pub with_input : ℕ → State → State
+with_input byte s = record s { inputs = byte ∷ [] }

@@ -1,0 +1,117 @@
+-- Small programs, written out. Each is a function of the lists or numbers in which it differs from its twins.
+use Rattle.std.specs.Prelude.{ℕ, ◌<◌, ◌≤◌, Bool, false, List, [], ◌∷◌}
+use Rattle.std.specs.List.{flat_map}
+use Rattle.std.specs.FinMap as maps
+use Rattle.sp_base.specs.Cells.{cells_at}
+use Rattle.sp_base.specs.declared.location.Loc.{Loc}
+use Rattle.sp_base.specs.declared.location.Loc.TheVariants as loc
+use Rattle.sp_base.specs.declared.location.Reg.TheVariants as reg
+use Rattle.sp_isa.specs.Code.{code}
+use Rattle.sp_isa.specs.declared.instr.Arg.TheVariants as arg
+use Rattle.sp_isa.specs.declared.instr.StackPair.TheVariants as stack
+use Rattle.sp_isa.specs.declared.instr.Instr.{Instr}
+use Rattle.sp_isa.specs.declared.instr.Instr.TheVariants.{Mvi, Sta, In, Out, Push, Pop, Ret, Hlt}
+use Rattle.sp_model.specs.Note.{Note, Compare, Equal, Location, Pair, StackWord, Now, AtEntry, BC, Literal}
+use Rattle.sp_model.specs.Unit.{Area, Listed, Stmt, Routine, Unit}
+
+-- nothing is listed
+abbrev pub nothing : Listed
+nothing = record { locs = []; areas = [] }
+
+-- A = n
+abbrev pub a_is : ℕ → Note
+a_is n = Compare Equal (Location Now loc.A) (Literal n)
+
+-- STKk = BC~
+abbrev pub pushed_word : ℕ → Note
+pushed_word k = Compare Equal (StackWord k) (Pair AtEntry BC)
+
+-- a routine at 100H without instructions, annotations, lists or stack
+abbrev pub plain : Routine
+plain = record {
+  name = [];
+  address = 0x100;
+  start = false;
+  pre = [];
+  post = [];
+  reads = nothing;
+  changes = nothing;
+  ins = [];
+  outs = [];
+  depth = 0;
+  code = [];
+}
+
+-- an instruction at its address, without assertions
+abbrev pub line : ℕ → Instr → Stmt
+line a i = record { address = a; instr = i; asserts = [] }
+
+-- the bytes of instructions, each with its address
+abbrev pub bytes_of : List Stmt → List (ℕ × ℕ)
+bytes_of = flat_map (λ i. cells_at i.address (code i.instr))
+
+-- a program of these routines, with stack from 2300H to 23FFH
+abbrev pub unit_of : List Routine → Unit
+unit_of routines = record {
+  image = maps.from_sorted (flat_map (λ r. bytes_of r.code) routines);
+  first = 0x2300;
+  last = 0x23FF;
+  areas = [];
+  routines = routines;
+}
+
+-- a program of one routine
+abbrev pub alone : Routine → Unit
+alone r = unit_of (r ∷ [])
+
+-- STA w and RET, where some areas are listed as read and some as changed
+abbrev pub store : ℕ → List Area → List Area → Routine
+store w reads areas = record plain {
+  reads = record { locs = []; areas = reads };
+  changes = record { locs = []; areas = areas };
+  code = line 0x100 (Sta w) ∷ line 0x103 Ret ∷ [];
+}
+
+-- an address of memory that is neither in the program of four bytes nor in the stack region
+pub record IsFree (w : ℕ) : Type 0 where
+  pub memory : w < 65536
+  pub program : ¬ ((0x100 ≤ w) × (w < 0x104))
+  pub stack : ¬ ((0x2300 ≤ w) × (w ≤ 0x23FF))
+
+-- OUT 5 and RET, where these ports are listed
+abbrev pub send : List ℕ → List ℕ → Routine
+send ins outs = record plain { ins = ins; outs = outs; code = line 0x100 (Out 5) ∷ line 0x102 Ret ∷ [] }
+
+-- IN 5 and RET, where these ports are listed, and A as changed
+abbrev pub take : List ℕ → List ℕ → Routine
+take ins outs = record plain {
+  changes = record { locs = loc.A ∷ []; areas = [] };
+  ins = ins;
+  outs = outs;
+  code = line 0x100 (In 5) ∷ line 0x102 Ret ∷ [];
+}
+
+-- MVI A,5 and RET, where some registers and flags are listed as read and some as changed, with these postconditions,
+-- and these assertions at the RET
+abbrev pub load : List Loc → List Loc → List Note → List Note → Routine
+load reads locs post asserts = record plain {
+  post = post;
+  reads = record { locs = reads; areas = [] };
+  changes = record { locs = locs; areas = [] };
+  code = line 0x100 (Mvi (arg.Reg reg.A) 5) ∷ record { address = 0x102; instr = Ret; asserts = asserts } ∷ [];
+}
+
+-- PUSH B, POP B and RET, with this many bytes of stack and these assertions at the POP
+abbrev pub push : ℕ → List Note → Routine
+push depth asserts = record plain {
+  depth = depth;
+  code = line 0x100 (Push stack.B) ∷ record { address = 0x101; instr = Pop stack.B; asserts = asserts } ∷ line 0x102 Ret ∷ [];
+}
+
+-- STA w and HLT, as a start routine or as another, with this many bytes of stack
+abbrev pub write : Bool → ℕ → ℕ → Routine
+write start depth w = record plain { start = start; depth = depth; code = line 0x100 (Sta w) ∷ line 0x103 Hlt ∷ [] }
+
+-- RET, with these preconditions and postconditions
+abbrev pub guard : List Note → List Note → Routine
+guard pre post = record plain { pre = pre; post = post; code = line 0x100 Ret ∷ [] }
