@@ -67,6 +67,17 @@ found_below n (c ∷ cells) h a b is =
       | false ↦ λ t there. found_below n cells h.1 a b there
     ] refl is
 
+pub found_all : (P : ℕ → Type 0) (cells : List (ℕ × ℕ)) → AllByRecursion (λ c. P c.1) cells → (a b : ℕ) → find nat_cmp a cells ≡ Some b → P b
+found_all P [] h a b is = cc
+found_all P (c ∷ cells) h a b is =
+    elim (eq_by_cmp nat_cmp a c.0) as (λ t. cond t (Some c.1) (find nat_cmp a cells) ≡ Some b → P b) [
+      | true ↦ λ there. subst P (same_value c.1 b there) h.0
+      | false ↦ λ there. found_all P cells h.1 a b there
+    ] is
+  where
+    same_value : (x y : ℕ) → Some x ≡ Some y → x ≡ y
+    same_value x y h = cc
+
 -- nothing stands at an address past all
 pub none_past : (cells : List (ℕ × ℕ)) (a : ℕ) → all_low 0x200 cells ≡ true → 0x200 ≤ a → find nat_cmp a cells ≡ None
 none_past cells a low high = none_of (find nat_cmp a cells) (λ b is. let under = found_below 0x200 cells (below 0x200 cells low) a b is in omega arith)

@@ -12,7 +12,7 @@ use Rattle.sp_isa.specs.Decode.{decode, decode_front}
 use Rattle.sp_isa.proofs.CodeLaws.{decodes_codes}
 use Rattle.sp_model.specs.State.{State, next_instr}
 use Rattle.sp_model.specs.Unit.{Area, Routine, Unit}
-use Rattle.sp_model.specs.Good.{Keeps, Loaded, InArea, InAllotment}
+use Rattle.sp_model.specs.Good.{Keeps, Loaded, InArea, InAllotment, base}
 
 -- ---- memory and outputs
 pub same_or_not : (a b : ℕ) → (a ≡ b) ⊎ (a ≢ b)
@@ -61,6 +61,17 @@ keeps_sent u r s t v o k cells outputs listed = record {
     k.outputs.0 ++ o ∷ [],
     outputs ∙ ap (λ xs. xs ++ o ∷ []) k.outputs.1 ∙ append_assoc s.outputs k.outputs.0 (o ∷ []),
     All-append (λ o. Contains r.outs o.0) k.outputs.0 (o ∷ []) k.outputs.2 (All-cons (λ o. Contains r.outs o.0) o [] listed (All-nil (λ o. Contains r.outs o.0))),
+  );
+}
+
+-- what is kept from s to t and from t to v is kept from s to v
+pub keeps_on : (u : Unit) (r : Routine) (s t v : State) → base u r t ≡ base u r s → Keeps u r s t → Keeps u r t v → Keeps u r s v
+keeps_on u r s t v same first next = record {
+  memory = λ a low apart out. next.memory a low apart (λ inside. out (subst (λ b. (a < b) × (b ≤ a + r.depth)) same inside)) ∙ first.memory a low apart out;
+  outputs = (
+    first.outputs.0 ++ next.outputs.0,
+    next.outputs.1 ∙ ap (λ xs. xs ++ next.outputs.0) first.outputs.1 ∙ append_assoc s.outputs first.outputs.0 next.outputs.0,
+    All-append (λ o. Contains r.outs o.0) first.outputs.0 next.outputs.0 first.outputs.2 next.outputs.2,
   );
 }
 

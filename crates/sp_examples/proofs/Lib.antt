@@ -1,11 +1,15 @@
 pub mod AloneLemmas
 pub mod EntryLemmas
+pub mod FarLemmas
+pub mod FlowLemmas
 pub mod GateLemmas
 pub mod GoodLemmas
 pub mod KeepsLemmas
 pub mod LoadLemmas
 pub mod PortLemmas
 pub mod PushLemmas
+pub mod ReturnLemmas
 pub mod RunLemmas
+pub mod StoppedLemmas
 pub mod StoreLemmas
 pub mod WriteLemmas

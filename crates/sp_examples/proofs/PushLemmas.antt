@@ -25,15 +25,15 @@ use Rattle.sp_examples.proofs.GoodLemmas.{Says, AssertsHold, good_step, not_retu
 use Rattle.sp_examples.proofs.AloneLemmas.{all_alone, after_one, finish, word_kept, at_moved, loaded_still}
 use Rattle.sp_examples.specs.Units.{push as pushing, pushed_word}
 
-abbrev cells : List (ℕ × ℕ)
+abbrev pub cells : List (ℕ × ℕ)
 cells = bytes_of (pushing 0 []).code
 
 -- memory after the PUSH
-abbrev pushed_cells : Core → List ℕ
+abbrev pub pushed_cells : Core → List ℕ
 pushed_cells core = slice_set (slice_set core.cells ((core.sp + 65535) % 65536) core.b) ((core.sp + 65534) % 65536) core.c
 
 -- the state after the PUSH
-abbrev pushed : State → State
+abbrev pub pushed : State → State
 pushed s = record s { core = record s.core { sp = (s.core.sp + 65534) % 65536; pc = 0x101; halted = false; cells = pushed_cells s.core } }
 
 -- the state after the POP
@@ -51,20 +51,20 @@ fetches_pop : (s : State) → Loaded (maps.from_sorted cells) (pushed s) → nex
 fetches_pop s loaded = fetch cells (pushed s) (Pop stack.B) refl loaded refl refl
 
 -- the two bytes on the stack
-low_byte : (s : State) → length s.core.cells ≡ 65536 → 2 ≤ s.core.sp → s.core.sp < 65536 → cell ((s.core.sp + 65534) % 65536) (pushed s).core ≡ s.core.c
+pub low_byte : (s : State) → length s.core.cells ≡ 65536 → 2 ≤ s.core.sp → s.core.sp < 65536 → cell ((s.core.sp + 65534) % 65536) (pushed s).core ≡ s.core.c
 low_byte s long room top =
     let there : (s.core.sp + 65534) % 65536 % 65536 ≡ (s.core.sp + 65534) % 65536 = omega arith in
     ap (slice_index (pushed_cells s.core)) there
     ∙ get_or-set_same (slice_set s.core.cells ((s.core.sp + 65535) % 65536) s.core.b) ((s.core.sp + 65534) % 65536) s.core.c 0 (omega (arith, length-set s.core.cells ((s.core.sp + 65535) % 65536) s.core.b, long))
 
-high_byte : (s : State) → length s.core.cells ≡ 65536 → 2 ≤ s.core.sp → s.core.sp < 65536 → cell ((s.core.sp + 65534) % 65536 + 1) (pushed s).core ≡ s.core.b
+pub high_byte : (s : State) → length s.core.cells ≡ 65536 → 2 ≤ s.core.sp → s.core.sp < 65536 → cell ((s.core.sp + 65534) % 65536 + 1) (pushed s).core ≡ s.core.b
 high_byte s long room top =
     let there : ((s.core.sp + 65534) % 65536 + 1) % 65536 ≡ (s.core.sp + 65535) % 65536 = omega arith in
     ap (slice_index (pushed_cells s.core)) there
     ∙ cell_apart (slice_set s.core.cells ((s.core.sp + 65535) % 65536) s.core.b) ((s.core.sp + 65535) % 65536) ((s.core.sp + 65534) % 65536) s.core.c (λ h. omega arith)
     ∙ get_or-set_same s.core.cells ((s.core.sp + 65535) % 65536) s.core.b 0 (omega (arith, long))
 
-word_on : (s : State) → length s.core.cells ≡ 65536 → 2 ≤ s.core.sp → s.core.sp < 65536 → word ((s.core.sp + 65534) % 65536) (pushed s).core ≡ s.core.c + 256 * s.core.b
+pub word_on : (s : State) → length s.core.cells ≡ 65536 → 2 ≤ s.core.sp → s.core.sp < 65536 → word ((s.core.sp + 65534) % 65536) (pushed s).core ≡ s.core.c + 256 * s.core.b
 word_on s long room top =
     ap (λ x. x + 256 * cell ((s.core.sp + 65534) % 65536 + 1) (pushed s).core) (low_byte s long room top)
     ∙ ap (λ x. s.core.c + 256 * x) (high_byte s long room top)
@@ -106,7 +106,7 @@ kept_pushed depth asserts s deep room top =
     (keeps_written u r t t half ((s.core.sp + 65535) % 65536) s.core.b (keeps_itself u r t) refl refl (inr (omega arith, omega arith)))
     refl refl (inr (omega arith, omega arith))
 
-stays : (s : State) (a : ℕ) → 2 ≤ s.core.sp → s.core.sp ≤ a → a < 65536 → cell a (popped s).core ≡ cell a s.core
+pub stays : (s : State) (a : ℕ) → 2 ≤ s.core.sp → s.core.sp ≤ a → a < 65536 → cell a (popped s).core ≡ cell a s.core
 stays s a room under over =
     cell_apart (slice_set s.core.cells ((s.core.sp + 65535) % 65536) s.core.b) (a % 65536) ((s.core.sp + 65534) % 65536) s.core.c (λ h. omega arith)
     ∙ cell_apart s.core.cells (a % 65536) ((s.core.sp + 65535) % 65536) s.core.b (λ h. omega arith)

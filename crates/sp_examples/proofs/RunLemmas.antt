@@ -1,6 +1,7 @@
 -- Steps of a run, and what makes all of a run good.
-use Rattle.std.proofs.Common.{◌≡◌, ℕ, zero, suc, ◌<◌, true, false, cond, ◌++◌, refl, sym, ap, subst, ◌∙◌, arith, Some, None, append-nil, inl}
-use Rattle.std.specs.Prelude.{is_some, option_to_list, drop}
+use Rattle.std.proofs.Common.{◌≡◌, ℕ, zero, suc, ◌+◌, ◌<◌, ◌≤◌, true, false, cond, ◌++◌, refl, sym, ap, subst, ◌∙◌, arith, Some, None, append-nil, inl, inr, lit≤}
+use Rattle.std.specs.Prelude.{is_some, option_to_list, drop, ◌↔◌}
+use Rattle.std.proofs.lemmas.Bool.{cases_lt}
 use Rattle.sp_isa.specs.declared.instr.Instr.{Instr}
 use Rattle.sp_isa.specs.Effect.{effect, takes_input, gives_output}
 use Rattle.sp_model.specs.State.{State, next_instr, next_input, step, run, executed}
@@ -51,3 +52,23 @@ halts u r s t here halted i none = subst (IsGoodAt u r s) (sym (run_halted t hal
 
 pub good_of : (u : Unit) (r : Routine) (s : State) → IsGoodFrom u r s s → (n : ℕ) → IsGood u r s n
 good_of u r s good n i within none = good i none
+
+-- ---- how many steps are claimed
+pub good_none : (u : Unit) (r : Routine) (s : State) → IsGood u r s 0 ↔ IsGoodAt u r s s
+good_none u r s =
+    (λ good. good 0 (lit≤ tt) (λ k less. absurd (omega arith)), λ here i within none. subst (λ k. IsGoodAt u r s (run s k)) (only i within) here)
+  where
+    only : (i : ℕ) → i ≤ 0 → 0 ≡ i
+    only i within = omega arith
+
+pub good_more : (u : Unit) (r : Routine) (s : State) (n : ℕ) → IsGood u r s (n + 1) ↔ (IsGood u r s n × (((k : ℕ) → k ≤ n → ¬ IsReturnStep u r s (run s k)) → IsGoodAt u r s (run s (n + 1))))
+good_more u r s n = (
+  (λ good. (λ i within none. good i (omega arith) none, λ none. good (n + 1) (omega arith) (λ k less. none k (omega arith)))),
+  (λ h i within none. elim (cases_lt n i) [
+    | inl more ↦ let is : n + 1 ≡ i = omega arith in subst (λ k. IsGoodAt u r s (run s k)) is (h.1 (λ k low. none k (omega arith)))
+    | inr low ↦ h.0 i low none
+  ]),
+)
+
+pub good_returned : (u : Unit) (r : Routine) (s : State) (n m : ℕ) → IsGood u r s n → IsReturnStep u r s (run s n) → IsGood u r s m
+good_returned u r s n m good returning i within none = elim (cases_lt n i) [ inl past ↦ absurd (none n past returning) | inr low ↦ good i low none ]

@@ -1,5 +1,5 @@
 -- States in which the runs of the examples begin.
-use Rattle.std.specs.Prelude.{ℕ, true, false, List, [], ◌∷◌, replicate, slice_set}
+use Rattle.std.specs.Prelude.{ℕ, true, false, List, [], ◌∷◌, ◌++◌, replicate, slice_set}
 use Rattle.sp_model.specs.State.{State}
 
 -- a memory of zeros
@@ -44,3 +44,22 @@ stopped s = record s { core = record s.core { halted = true } }
 -- the state with one byte still to come at the ports
 abbrev pub with_input : ℕ → State → State
 with_input byte s = record s { inputs = byte ∷ [] }
+
+-- the state with another stack pointer
+abbrev pub with_sp : ℕ → State → State
+with_sp sp s = record s { core = record s.core { sp = sp } }
+
+-- the state with another value of Z
+abbrev pub with_z : ℕ → State → State
+with_z z s = record s { core = record s.core { z = z } }
+
+-- a state that may follow: with these values of A, B, SP and PC, a byte put out to a port, and a 1 written to a cell
+abbrev pub left : ℕ → ℕ → ℕ → ℕ → ℕ → ℕ → State → State
+left a b sp pc port w s = record s {
+  core = record s.core { a = a; b = b; sp = sp; pc = pc; cells = slice_set s.core.cells w 1 };
+  outputs = s.outputs ++ (port, 0) ∷ [];
+}
+
+-- RET at 100H, and the word 1234H at 2380H
+abbrev pub end_cells : List (ℕ × ℕ)
+end_cells = (0x100, 0xC9) ∷ (0x2380, 0x34) ∷ (0x2381, 0x12) ∷ []

@@ -1,5 +1,5 @@
 -- Small programs, written out. Each is a function of the lists or numbers in which it differs from its twins.
-use Rattle.std.specs.Prelude.{ℕ, ◌<◌, ◌≤◌, Bool, false, List, [], ◌∷◌}
+use Rattle.std.specs.Prelude.{ℕ, ◌<◌, ◌≤◌, Bool, true, false, List, [], ◌∷◌}
 use Rattle.std.specs.List.{flat_map}
 use Rattle.std.specs.FinMap as maps
 use Rattle.sp_base.specs.Cells.{cells_at}
@@ -7,11 +7,14 @@ use Rattle.sp_base.specs.declared.location.Loc.{Loc}
 use Rattle.sp_base.specs.declared.location.Loc.TheVariants as loc
 use Rattle.sp_base.specs.declared.location.Reg.TheVariants as reg
 use Rattle.sp_isa.specs.Code.{code}
+use Rattle.sp_base.specs.declared.pair.Pair.TheVariants as pair
 use Rattle.sp_isa.specs.declared.instr.Arg.TheVariants as arg
 use Rattle.sp_isa.specs.declared.instr.StackPair.TheVariants as stack
 use Rattle.sp_isa.specs.declared.instr.Instr.{Instr}
-use Rattle.sp_isa.specs.declared.instr.Instr.TheVariants.{Mvi, Sta, In, Out, Push, Pop, Ret, Hlt}
+use Rattle.sp_isa.specs.declared.instr.Instr.TheVariants.{Mvi, Sta, In, Out, Push, Pop, Ret, Hlt, Jmp, Call, Lxi, Nop}
 use Rattle.sp_model.specs.Note.{Note, Compare, Equal, Location, Pair, StackWord, Now, AtEntry, BC, Literal}
+use Rattle.sp_examples.specs.States.{ready}
+use Rattle.sp_model.specs.State.{State}
 use Rattle.sp_model.specs.Unit.{Area, Listed, Stmt, Routine, Unit}
 
 -- nothing is listed
@@ -115,3 +118,52 @@ write start depth w = record plain { start = start; depth = depth; code = line 0
 -- RET, with these preconditions and postconditions
 abbrev pub guard : List Note → List Note → Routine
 guard pre post = record plain { pre = pre; post = post; code = line 0x100 Ret ∷ [] }
+
+-- one instruction
+abbrev pub only : Instr → Routine
+only i = record plain { code = line 0x100 i ∷ [] }
+
+-- the state in which it begins, with SP 2380H
+abbrev pub given : Instr → State
+given i = ready (bytes_of (only i).code) 0x100 0x2380
+
+-- the same as a start routine
+abbrev pub begin : Instr → Routine
+begin i = record (only i) { start = true }
+
+-- RET, after which A is 9, where A and the cell 2000H are listed as changed and port 5 for outputs, with two bytes of stack
+abbrev pub finish : Routine
+finish = record (only Ret) {
+  post = a_is 9 ∷ [];
+  changes = record { locs = loc.A ∷ []; areas = record { name = []; address = 0x2000; len = 1 } ∷ [] };
+  outs = 5 ∷ [];
+  depth = 2;
+}
+
+-- JMP w, and RET at 110H as a routine of its own with these assertions
+abbrev pub hop : ℕ → Routine
+hop w = only (Jmp w)
+
+abbrev pub landing : List Note → Routine
+landing asserts = record plain { address = 0x110; code = record { address = 0x110; instr = Ret; asserts = asserts } ∷ [] }
+
+-- LXI B,w, PUSH B, RET and RET: the first RET goes on at w
+abbrev pub far : ℕ → Routine
+far w = record plain {
+  changes = record { locs = loc.B ∷ loc.C ∷ []; areas = [] };
+  depth = 2;
+  code = line 0x100 (Lxi pair.B w) ∷ line 0x103 (Push stack.B) ∷ line 0x104 Ret ∷ line 0x105 Ret ∷ [];
+}
+
+-- NOP and these instructions
+abbrev pub run_on : List Stmt → Routine
+run_on rest = record plain { code = line 0x100 Nop ∷ rest }
+
+-- LXI SP,2400H, CALL 100H and HLT at 110H, as a start routine with this many bytes of stack
+abbrev pub caller : ℕ → Routine
+caller depth = record plain {
+  address = 0x110;
+  start = true;
+  depth = depth;
+  code = line 0x110 (Lxi pair.Sp 0x2400) ∷ line 0x113 (Call 0x100) ∷ line 0x116 Hlt ∷ [];
+}

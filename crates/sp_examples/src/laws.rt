@@ -1,14 +1,18 @@
 //! Which of the small programs are good. Each law has a list or a number in which a program differs from its twins.
 
-ghost use Rattle.std.specs.Prelude.{◌≡◌, ◌↔◌, ℕ, ◌+◌, ◌<◌, ◌≤◌, true, false, List, [], ◌∷◌, Contains};
+ghost use Rattle.std.specs.Prelude.{◌≡◌, ◌↔◌, ◌⊎◌, ℕ, ◌+◌, ◌<◌, ◌≤◌, true, false, List, [], ◌∷◌, ◌++◌, Contains};
 ghost use Rattle.sp_base.specs.declared.location.Loc.{Loc};
 ghost use Rattle.sp_base.specs.declared.location.Loc.TheVariants as loc;
-ghost use Rattle.sp_model.specs.Good.{AllRunsAreGood, IsEntry, IsGood};
+ghost use Rattle.sp_isa.specs.Effect.{gives_output, takes_input};
+ghost use Rattle.sp_isa.specs.declared.instr.Cond.TheVariants as when;
+ghost use Rattle.sp_isa.specs.declared.instr.Instr.{Instr};
+ghost use Rattle.sp_isa.specs.declared.instr.Instr.TheVariants.{In, Nop, Out, Rcc, Ret};
+ghost use Rattle.sp_model.specs.Good.{AllRunsAreGood, HasReturned, IsEntry, IsGood, IsGoodAt, IsReturnStep, Keeps, base};
 ghost use Rattle.sp_model.specs.Note.{Note};
-ghost use Rattle.sp_model.specs.State.{State};
-ghost use Rattle.sp_model.specs.Unit.{Area, Routine};
-ghost use Rattle.sp_examples.specs.States.{ready, stopped, with_input};
-ghost use Rattle.sp_examples.specs.Units.{IsFree, a_is, alone, bytes_of, guard, load, push, pushed_word, send, store, take, write};
+ghost use Rattle.sp_model.specs.State.{State, IsState, next_instr, run, step};
+ghost use Rattle.sp_model.specs.Unit.{Area, Routine, Unit};
+ghost use Rattle.sp_examples.specs.States.{end_cells, left, ready, stopped, with_input, with_sp, with_z};
+ghost use Rattle.sp_examples.specs.Units.{IsFree, a_is, alone, begin, bytes_of, far, finish, given, guard, hop, landing, line, load, only, push, pushed_word, run_on, send, store, take, unit_of, write};
 
 /// `STA w` is good exactly where an area listed as changed has the cell w, whatever areas are listed as read.
 pub fn stores_are_listed()
@@ -85,4 +89,91 @@ pub fn routines_without_entry()
     ensures pre { (n : ℕ) (s : State) → ¬ IsEntry (alone (guard (a_is 256 ∷ []) (a_is n ∷ []))) (guard (a_is 256 ∷ []) (a_is n ∷ [])) s }
     ensures room { (asserts : List Note) (s : State) → ¬ IsEntry (alone (push 0xFF asserts)) (push 0xFF asserts) s }
     ensures good { (r : Routine) → ((s : State) → ¬ IsEntry (alone r) r s) → AllRunsAreGood (alone r) }
+{}
+
+/// A step returns exactly where its instruction returns and SP is the base: SP at the entry, or the address past the stack
+/// region for a start routine. A conditional return does so where its condition holds. A halted state returns nowhere.
+pub fn returns_are_at_base()
+    ensures base { (sp : ℕ) → IsReturnStep (alone (only Ret)) (only Ret) (given Ret) (with_sp sp (given Ret)) ↔ (sp ≡ 0x2380) }
+    ensures start { (sp : ℕ) → IsReturnStep (alone (begin Ret)) (begin Ret) (given Ret) (with_sp sp (given Ret)) ↔ (sp ≡ 0x2400) }
+    ensures condition { (z : ℕ) → IsReturnStep (alone (only (Rcc when.Z))) (only (Rcc when.Z)) (given (Rcc when.Z)) (with_z z (given (Rcc when.Z))) ↔ (z ≡ 1) }
+    ensures halted { ¬ IsReturnStep (alone (only Ret)) (only Ret) (given Ret) (stopped (given Ret)) }
+    ensures other { ¬ IsReturnStep (alone (only Nop)) (only Nop) (given Nop) (given Nop) }
+{}
+
+/// After a return: the postcondition is true (A is 9), a register that isn't listed is as at the entry (B is 1), SP is two
+/// higher, PC is the word that stood at the base (1234H), bytes went to listed ports alone (port 5), and only a listed cell
+/// (2000H) or one of the depth of two bytes below the base (2380H) was written.
+pub fn returns_leave_what_is_listed()
+    ensures { (a b sp pc port w : ℕ) → w < 65536
+        → HasReturned (alone finish) finish (ready end_cells 0x100 0x2380) (left a b sp pc port w (ready end_cells 0x100 0x2380))
+        ↔ ((a ≡ 9) × (b ≡ 1) × (sp ≡ 0x2382) × (pc ≡ 0x1234) × (port ≡ 5) × ((w ≡ 0x2000) ⊎ ((0x237E ≤ w) × (w < 0x2380)))) }
+{}
+
+/// A halted state is good whatever stands at its PC. One that isn't halted is bad where no instruction begins, or where
+/// an IN takes from a port that isn't listed.
+pub fn halted_states_go_nowhere()
+    ensures halted { (i : Instr) (cells : List (ℕ × ℕ)) → IsGoodAt (alone (only i)) (only i) (ready cells 0x100 0x2380) (stopped (ready cells 0x100 0x2380)) }
+    ensures stuck { ¬ IsGoodAt (alone (only Nop)) (only Nop) (ready ((0x100, 8) ∷ []) 0x100 0x2380) (ready ((0x100, 8) ∷ []) 0x100 0x2380) }
+    ensures input { ¬ IsGoodAt (alone (only (In 5))) (only (In 5)) (given (In 5)) (given (In 5)) }
+{}
+
+/// A run that leaves the code is bad: NOP is good with a RET after it, and bad with none. Where a JMP leads to, an
+/// instruction of some routine begins: here the JMP itself, at 100H, or the RET of another routine, at 110H.
+pub fn runs_stay_in_code()
+    ensures ended { AllRunsAreGood (alone (run_on (line 0x101 Ret ∷ []))) }
+    ensures unended { ¬ AllRunsAreGood (alone (run_on [])) }
+    ensures jump { (w : ℕ) → w < 65536 → AllRunsAreGood (unit_of (hop w ∷ landing [] ∷ [])) ↔ ((w ≡ 0x100) ⊎ (w ≡ 0x110)) }
+{}
+
+/// The assertions of a routine are its own: a false one where another routine goes on is nothing to that other one. All
+/// routines of a program count: this one is bad by its second routine.
+pub fn assertions_are_those_of_the_routine()
+    ensures first { (n : ℕ) (s : State) → IsEntry (unit_of (hop 0x110 ∷ landing (a_is 5 ∷ []) ∷ [])) (hop 0x110) s
+        → IsGood (unit_of (hop 0x110 ∷ landing (a_is 5 ∷ []) ∷ [])) (hop 0x110) s n }
+    ensures second { ¬ AllRunsAreGood (unit_of (hop 0x110 ∷ landing (a_is 5 ∷ []) ∷ [])) }
+{}
+
+/// A RET with another SP than the base is a jump: it goes on at the word that was pushed, which is good at the second RET,
+/// and bad past it.
+pub fn other_returns_are_jumps()
+    ensures good { AllRunsAreGood (alone (far 0x105)) }
+    ensures bad { ¬ AllRunsAreGood (alone (far 0x106)) }
+{}
+
+/// IN takes the next byte to come, or 255 where there is none, and puts nothing out. OUT puts its port and A after what was
+/// put out before, and takes nothing. Other instructions leave both.
+pub fn steps_at_ports()
+    ensures taken { (s : State) (port n x : ℕ) (rest : List ℕ) → s.core.halted ≡ false → next_instr s.core ≡ Some (In port, n) → s.inputs ≡ x ∷ rest
+        → ((step s).core.a ≡ x) × ((step s).inputs ≡ rest) × ((step s).outputs ≡ s.outputs) }
+    ensures past_end { (s : State) (port n : ℕ) → s.core.halted ≡ false → next_instr s.core ≡ Some (In port, n) → s.inputs ≡ []
+        → ((step s).core.a ≡ 255) × ((step s).inputs ≡ []) × ((step s).outputs ≡ s.outputs) }
+    ensures put_out { (s : State) (port n : ℕ) → s.core.halted ≡ false → next_instr s.core ≡ Some (Out port, n)
+        → ((step s).inputs ≡ s.inputs) × ((step s).outputs ≡ s.outputs ++ (port, s.core.a) ∷ []) }
+    ensures neither { (s : State) (i : Instr) (n : ℕ) → s.core.halted ≡ false → next_instr s.core ≡ Some (i, n)
+        → takes_input i ≡ None → gives_output i s.core ≡ None
+        → ((step s).inputs ≡ s.inputs) × ((step s).outputs ≡ s.outputs) }
+{}
+
+/// A state has bytes in its registers, among its inputs, and as ports and bytes among its outputs.
+pub fn states_are_in_range()
+    ensures register { (a : ℕ) → IsState (record (given Nop) { core = record (given Nop).core { a = a } }) ↔ (a < 256) }
+    ensures input { (byte : ℕ) → IsState (record (given Nop) { inputs = byte ∷ [] }) ↔ (byte < 256) }
+    ensures output { (port byte : ℕ) → IsState (record (given Nop) { outputs = (port, byte) ∷ [] }) ↔ ((port < 256) × (byte < 256)) }
+{}
+
+/// Nothing has changed between a state and itself, and what two parts of a run keep the whole keeps, where the base is the
+/// same.
+pub fn keeping_composes()
+    ensures itself { (u : Unit) (r : Routine) (s : State) → Keeps u r s s }
+    ensures parts { (u : Unit) (r : Routine) (s t v : State) → base u r t ≡ base u r s → Keeps u r s t → Keeps u r t v → Keeps u r s v }
+{}
+
+/// What is claimed of no step is claimed of the entry; of one step more, of the state after it too, if no step before it
+/// returned; and once one returned, of no further state.
+pub fn claims_grow_by_steps()
+    ensures none { (u : Unit) (r : Routine) (s : State) → IsGood u r s 0 ↔ IsGoodAt u r s s }
+    ensures more { (u : Unit) (r : Routine) (s : State) (n : ℕ)
+        → IsGood u r s (n + 1) ↔ (IsGood u r s n × (((k : ℕ) → k ≤ n → ¬ IsReturnStep u r s (run s k)) → IsGoodAt u r s (run s (n + 1)))) }
+    ensures returned { (u : Unit) (r : Routine) (s : State) (n m : ℕ) → IsGood u r s n → IsReturnStep u r s (run s n) → IsGood u r s m }
 {}
