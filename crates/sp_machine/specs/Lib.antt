@@ -1,2 +1,3 @@
 pub mod Event
 pub mod Machine
+pub mod Ports

@@ -4,6 +4,7 @@
 mod arithmetic;
 mod event;
 mod execute;
+mod laws;
 mod machine;
 mod operands;
 mod stack;
@@ -12,4 +13,5 @@ mod transfer;
 mod turns;
 
 pub use event::Event;
+pub use laws::events_tell_the_ports;
 pub use machine::Machine;

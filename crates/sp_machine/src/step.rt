@@ -2,6 +2,7 @@ ghost use Rattle.std.specs.Prelude.{◌≡◌};
 ghost use Rattle.sp_isa.specs.Core.{IsCore};
 ghost use Rattle.sp_isa.specs.Step.{step};
 ghost use Rattle.sp_machine.specs.Event.{event, event_of, fetched};
+ghost use Rattle.sp_machine.specs.Ports.{IsModelStep};
 
 use crate::{Event, Machine};
 use sp_base::Reg;
@@ -32,11 +33,13 @@ impl Machine {
         ]
     }
 
-    /// One step, `input` being the byte that an IN takes. A step allocates nothing, and copies no memory.
+    /// One step, `input` being the byte that an IN takes. It is the model's step from each state with this core whose next
+    /// input is that byte. A step allocates nothing, and copies no memory.
     #[tactic(auto, unfolding(sp_isa::specs::Step::step, crate::specs::Event::event))]
     pub fn step(&mut self, input: u8) -> Event
         ensures state { self.new ≡ step input self.old }
         ensures event { result ≡ event self.old }
+        ensures model { IsModelStep input self.old self.new result }
         ensures core { IsCore self.new }
     {
         if self.halted() {

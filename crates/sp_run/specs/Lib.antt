@@ -1,4 +1,3 @@
-pub mod Events
 pub mod Form
 pub mod Matches
 pub mod Options

@@ -1,6 +1,6 @@
 ghost use Rattle.std.specs.Prelude.{◌≡◌, ◌++◌, [], IfOk, OnOk};
 ghost use Rattle.sp_model.specs.State.{State, run};
-ghost use Rattle.sp_run.specs.Events.{is_stuck, inputs_after, outputs_of};
+ghost use Rattle.sp_machine.specs.Ports.{is_stuck, inputs_after, outputs_of};
 ghost use Rattle.sp_run.specs.Texts.{output_lines};
 ghost use Rattle.sp_run.specs.Run.{EndsAfter};
 

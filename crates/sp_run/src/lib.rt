@@ -15,7 +15,7 @@ mod texts;
 mod values;
 
 pub use form::is_in_form;
-pub use laws::{a_run_has_one_text, events_tell_the_ports};
+pub use laws::a_run_has_one_text;
 pub use parsing::read_options;
 pub use runs::run;
 pub use settings::{Flag, Options, Setting, Settings};

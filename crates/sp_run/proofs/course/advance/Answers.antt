@@ -1,6 +1,6 @@
 use Rattle.std.proofs.Common.{◌≡◌, ◌∙◌, true, false, [], arith, rules}
 use Rattle.sp_machine.specs.Event.{event}
-use Rattle.sp_run.specs.Events.{is_stuck}
+use Rattle.sp_machine.specs.Ports.{is_stuck}
 use Rattle.sp_run.proofs.StepLaws.{has_stopped, stuck_stays, one_more_step, ends_stopped}
 use Rattle.sp_run.proofs.course.advance.Goals as goal
 
