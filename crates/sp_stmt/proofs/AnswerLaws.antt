@@ -11,8 +11,8 @@ use Rattle.sp_expr.specs.Trees.{Tree, Spells, depth_of}
 use Rattle.sp_expr.proofs.NestingLaws.{shallow, nests_shallow}
 use Rattle.sp_expr.proofs.SentenceLaws.{spelled_is_sentence}
 use Rattle.sp_expr.proofs.TreeLaws.{sentence_is_spelled}
-use Rattle.sp_stmt.specs.Answers.{Answers}
-use Rattle.sp_stmt.specs.Expressions.{checked_words}
+use Rattle.sp_stmt.specs.code.Answers.{Answers}
+use Rattle.sp_stmt.specs.code.Expressions.{checked_words}
 
 -- a refusal goes through what passes refusals on
 pub refused : {X Y : Type 0} (f : Result X ParseRefusal → Result Y ParseRefusal) → ((e : ParseRefusal) → f (Err e) ≡ Err e) → (e : ParseRefusal) (right : Result X ParseRefusal) → Answers {X = X} (Err e) right → Answers {X = Y} (Err e) (f right)

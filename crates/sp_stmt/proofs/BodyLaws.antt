@@ -30,9 +30,9 @@ use Rattle.sp_stmt.specs.declared.mnemonic.StackForm.TheVariants.{Push, Pop}
 use Rattle.sp_stmt.specs.declared.operand.Operand.{Operand}
 use Rattle.sp_stmt.specs.declared.statement.Code.{Code}
 use Rattle.sp_stmt.specs.declared.statement.Code.TheVariants as code
-use Rattle.sp_stmt.specs.Bodies.{body, with_register, with_pair, with_stack_pair, moved, plain, with_operands, with_expression, load_with, load_body, register_instr, pair_instr, stack_instr, move_instr, body_of}
-use Rattle.sp_stmt.specs.Data.{in_front, items_of, if_text, lone_text, byte_item, item_of, behind, one_operand, data_of}
-use Rattle.sp_stmt.specs.Expressions.{checked_words, expression_of, operand_from, operand_of}
+use Rattle.sp_stmt.specs.code.Bodies.{body, with_register, with_pair, with_stack_pair, moved, plain, with_operands, with_expression, load_with, load_body, register_instr, pair_instr, stack_instr, move_instr, body_of}
+use Rattle.sp_stmt.specs.code.Data.{in_front, items_of, if_text, lone_text, byte_item, item_of, behind, one_operand, data_of}
+use Rattle.sp_stmt.specs.code.Expressions.{checked_words, expression_of, operand_from, operand_of}
 use Rattle.sp_stmt.specs.Grammar.{arg_name, pair_name, stack_pair_name, Says, IsBare, IsWord, IsValue, AreItems, StandsBehind, AreOperandsOf, IsCode}
 use Rattle.sp_stmt.specs.Manual.{mnemonic_of, form_of}
 use Rattle.sp_stmt.specs.Mnemonics.{mnemonic_named}

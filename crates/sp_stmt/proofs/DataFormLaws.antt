@@ -15,8 +15,8 @@ use Rattle.sp_stmt.specs.declared.mnemonic.DataKind.TheVariants.{Bytes, Words}
 use Rattle.sp_stmt.specs.declared.mnemonic.ExpressionKind.TheVariants as kind
 use Rattle.sp_stmt.specs.declared.operand.Operand.{Operand}
 use Rattle.sp_stmt.specs.declared.operand.Operand.TheVariants as operand
-use Rattle.sp_stmt.specs.Data.{in_front, items_of, text_operand, if_text, lone_text, byte_item, item_of, behind, one_operand, data_of}
-use Rattle.sp_stmt.specs.Expressions.{operand_from, operand_of}
+use Rattle.sp_stmt.specs.code.Data.{in_front, items_of, text_operand, if_text, lone_text, byte_item, item_of, behind, one_operand, data_of}
+use Rattle.sp_stmt.specs.code.Expressions.{operand_from, operand_of}
 use Rattle.sp_stmt.specs.Grammar.{IsExpression, IsText, IsItem, AreItems, last, more, IsShallow}
 use Rattle.sp_stmt.specs.Tokens.{is_comma}
 use Rattle.sp_stmt.proofs.ExactLaws.{Exact, found, deep, none, exact-same, exact-map}
@@ -92,13 +92,16 @@ Follows R Q os = (o : Operand) × (rest : List Operand) × (os ≡ o ∷ rest) �
 follow_exact : (R : Operand → Type 0) (Q : List Operand → Type 0) {r : Result Operand ParseRefusal} {q : Result (List Operand) ParseRefusal} → Exact R IsShallow r → Exact Q (All IsShallow) q → Exact (Follows R Q) (All IsShallow) (behind (one_operand r) q)
 follow_exact R Q (found o h s only) (found os k t one) =
     found (o ∷ os) (o, os, refl, h, k) (All-cons IsShallow o os s t) (λ all l. l.2 ∙ ap (λ first. first ∷ l.1) (only l.0 l.3) ∙ ap (λ rest. o ∷ rest) (one l.1 l.4))
-follow_exact R Q (found o h s only) (deep os k never) = deep (o ∷ os) (o, os, refl, h, k) (λ all l t. never l.1 l.4 (All-tail IsShallow l.0 l.1 (subst (All IsShallow) l.2 t)))
+follow_exact R Q (found o h s only) (deep os k never one) =
+    deep (o ∷ os) (o, os, refl, h, k) (λ all l t. never l.1 l.4 (All-tail IsShallow l.0 l.1 (subst (All IsShallow) l.2 t))) (λ all l. l.2 ∙ ap (λ first. first ∷ l.1) (only l.0 l.3) ∙ ap (λ rest. o ∷ rest) (one l.1 l.4))
 follow_exact R Q (found o h s only) (none nothing) = none (λ all l. nothing l.1 l.4)
-follow_exact R Q (deep o h never) (found os k t one) = deep (o ∷ os) (o, os, refl, h, k) (λ all l u. never l.0 l.3 (All-head IsShallow l.0 l.1 (subst (All IsShallow) l.2 u)))
-follow_exact R Q (deep o h never) (deep os k nor) = deep (o ∷ os) (o, os, refl, h, k) (λ all l u. never l.0 l.3 (All-head IsShallow l.0 l.1 (subst (All IsShallow) l.2 u)))
-follow_exact R Q (deep o h never) (none nothing) = none (λ all l. nothing l.1 l.4)
+follow_exact R Q (deep o h never only) (found os k t one) =
+    deep (o ∷ os) (o, os, refl, h, k) (λ all l u. never l.0 l.3 (All-head IsShallow l.0 l.1 (subst (All IsShallow) l.2 u))) (λ all l. l.2 ∙ ap (λ first. first ∷ l.1) (only l.0 l.3) ∙ ap (λ rest. o ∷ rest) (one l.1 l.4))
+follow_exact R Q (deep o h never only) (deep os k nor one) =
+    deep (o ∷ os) (o, os, refl, h, k) (λ all l u. never l.0 l.3 (All-head IsShallow l.0 l.1 (subst (All IsShallow) l.2 u))) (λ all l. l.2 ∙ ap (λ first. first ∷ l.1) (only l.0 l.3) ∙ ap (λ rest. o ∷ rest) (one l.1 l.4))
+follow_exact R Q (deep o h never only) (none nothing) = none (λ all l. nothing l.1 l.4)
 follow_exact R Q (none nothing) (found os k t one) = none (λ all l. nothing l.0 l.3)
-follow_exact R Q (none nothing) (deep os k never) = none (λ all l. nothing l.0 l.3)
+follow_exact R Q (none nothing) (deep os k never one) = none (λ all l. nothing l.0 l.3)
 follow_exact R Q (none nothing) (none nor) = none (λ all l. nothing l.0 l.3)
 
 each_exact : (kind : DataKind) (source : List ℕ) (items : List (List Token)) → Exact (Each source kind items) (All IsShallow) (data_of kind source items)

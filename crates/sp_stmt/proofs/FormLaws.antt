@@ -24,9 +24,10 @@ use Rattle.sp_stmt.specs.declared.mnemonic.ExpressionKind.TheVariants as kind
 use Rattle.sp_stmt.specs.declared.operand.Operand.{Operand}
 use Rattle.sp_stmt.specs.declared.statement.Code.{Code}
 use Rattle.sp_stmt.specs.declared.statement.Code.TheVariants as code
-use Rattle.sp_stmt.specs.Bodies.{body, alone, moved, plain, with_operands, with_expression, load_with, end_body, move_instr}
-use Rattle.sp_stmt.specs.Data.{one_operand}
-use Rattle.sp_stmt.specs.Expressions.{used_as, checked_words, expression_of, operand_from, operand_of}
+use Rattle.sp_stmt.specs.code.Bodies.{body, alone, moved, plain, with_operands, with_expression, load_with, end_body, move_instr}
+use Rattle.sp_stmt.specs.code.Data.{one_operand}
+use Rattle.sp_stmt.specs.Operands.{used_as}
+use Rattle.sp_stmt.specs.code.Expressions.{checked_words, expression_of, operand_from, operand_of}
 use Rattle.sp_stmt.specs.Grammar.{arg_name, Says, IsExpression, IsBare, IsWord, AreWords, IsValue, IsLoad, NestsWithin, IsShallow}
 use Rattle.sp_stmt.specs.Tokens.{is_comma, arg_at}
 use Rattle.sp_stmt.proofs.ExactLaws.{Exact, found, deep, none, exact-same, exact-map}
@@ -45,7 +46,7 @@ sentence_exact source tokens ws true true sentence few e =
 sentence_exact source tokens ws true false sentence few e =
     let tree = sentence_is_spelled ws sentence in
     deep ws (record { words = e; tree = tree.0; spells = tree.1 })
-    (λ vs h s. let within = nests_shallow vs s.0 s.1 s.2 in let same = same_words source tokens ws vs e h in let both = ap (nests_within (nests (nest 0 0) [])) same in absurd cc)
+    (λ vs h s. let within = nests_shallow vs s.0 s.1 s.2 in let same = same_words source tokens ws vs e h in let both = ap (nests_within (nests (nest 0 0) [])) same in absurd cc) (λ vs h. same_words source tokens ws vs e h)
 sentence_exact source tokens ws false within sentence few e =
     none (λ vs h. let right = spelled_is_sentence vs h.tree h.spells in let same = same_words source tokens ws vs e h in let both = ap is_sentence same in absurd cc)
 

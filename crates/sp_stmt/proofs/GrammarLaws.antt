@@ -19,10 +19,10 @@ use Rattle.sp_stmt.specs.declared.operand.Operand.{Operand}
 use Rattle.sp_stmt.specs.declared.statement.Code.{Code}
 use Rattle.sp_stmt.specs.declared.statement.Code.TheVariants as code
 use Rattle.sp_stmt.specs.declared.statement.Statement.{Statement}
-use Rattle.sp_stmt.specs.Bodies.{body, body_of}
+use Rattle.sp_stmt.specs.code.Bodies.{body, body_of}
 use Rattle.sp_stmt.specs.Grammar.{Says, Names, IsValue, IsShallow, IsCode, IsLabel, Assigns, IsLabelled, IsUnlabelled, IsForm, IsLine}
 use Rattle.sp_stmt.specs.Mnemonics.{mnemonic_named}
-use Rattle.sp_stmt.specs.Reading.{statement, with_body, refuses_label, with_code, coded, labelled, assigning, assigned, unlabelled, statement_of}
+use Rattle.sp_stmt.specs.code.Reading.{statement, with_body, refuses_label, with_code, coded, labelled, assigning, assigned, unlabelled, statement_of}
 use Rattle.sp_stmt.specs.Tokens.{is_colon, name_at, unless_reserved, own_name_at, mnemonic_at, assignment_of, assignment_at}
 use Rattle.sp_stmt.proofs.BodyLaws.{Behind, body_exact, code_behind, behind_code, code_none}
 use Rattle.sp_stmt.proofs.ExactLaws.{Exact, found, none, exact-same, exact-map}

@@ -6,9 +6,9 @@ use Rattle.sp_expr.specs.declared.refusal.ParseRefusal.{ParseRefusal}
 use Rattle.sp_expr.specs.declared.refusal.ParseRefusal.TheVariants.{Syntax, TooDeep, Memory}
 use Rattle.sp_stmt.specs.declared.mnemonic.DataKind.{DataKind}
 use Rattle.sp_stmt.specs.declared.operand.Operand.{Operand}
-use Rattle.sp_stmt.specs.Answers.{Answers}
-use Rattle.sp_stmt.specs.Data.{in_front, items_of, items_behind, first_refusal, behind, one_operand, item_of, data_of}
-use Rattle.sp_stmt.specs.Held.{AnswersItem}
+use Rattle.sp_stmt.specs.code.Answers.{Answers}
+use Rattle.sp_stmt.specs.code.Data.{in_front, items_of, items_behind, first_refusal, behind, one_operand, item_of, data_of}
+use Rattle.sp_stmt.specs.code.Held.{AnswersItem}
 use Rattle.sp_stmt.specs.Tokens.{is_comma}
 
 -- the first item ends before the first comma

@@ -9,4 +9,5 @@ pub mod LineLaws
 pub mod MarkLaws
 pub mod NameTableLaws
 pub mod ReservedLaws
+pub mod SourceLemmas
 pub mod StatementLaws

@@ -14,9 +14,9 @@ use Rattle.sp_expr.specs.declared.refusal.ParseRefusal.TheVariants.{Syntax, TooD
 use Rattle.sp_expr.specs.Words.{AreIn}
 use Rattle.sp_expr.proofs.TokenLaws.{tokens_are_in}
 use Rattle.sp_stmt.specs.declared.statement.Statement.{Statement}
-use Rattle.sp_stmt.specs.Answers.{Answers, AnswersStatements, refusal_at}
-use Rattle.sp_stmt.specs.Reading.{Fault, is_statement, from_line, then_statements, statement_of, statements_from}
-use Rattle.sp_stmt.specs.Reading as stmt
+use Rattle.sp_stmt.specs.code.Answers.{Answers, AnswersStatements, refusal_at}
+use Rattle.sp_stmt.specs.code.Reading.{Fault, is_statement, from_line, then_statements, statement_of, statements_from}
+use Rattle.sp_stmt.specs.code.Reading as stmt
 
 -- a row is no shorter than a byte, so a source has no more lines than bytes
 

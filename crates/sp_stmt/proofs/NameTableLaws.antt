@@ -25,7 +25,7 @@ use Rattle.sp_stmt.specs.declared.mnemonic.Mnemonic.{Mnemonic}
 use Rattle.sp_stmt.specs.declared.mnemonic.Mnemonic.TheVariants as mnemonic
 use Rattle.sp_stmt.specs.declared.mnemonic.TheConstants.{MNEMONICS}
 use Rattle.sp_stmt.specs.declared.register.TheConstants.{REGISTERS, PAIRS, STACK_PAIRS}
-use Rattle.sp_stmt.specs.Bodies.{with_register, with_pair, with_stack_pair}
+use Rattle.sp_stmt.specs.code.Bodies.{with_register, with_pair, with_stack_pair}
 use Rattle.sp_stmt.specs.Grammar.{arg_name, pair_name, stack_pair_name, Says}
 use Rattle.sp_stmt.specs.Manual.{mnemonic_of, form_of}
 use Rattle.sp_stmt.specs.Mnemonics.{mnemonic_named}

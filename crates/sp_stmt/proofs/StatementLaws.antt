@@ -45,11 +45,12 @@ use Rattle.sp_stmt.specs.declared.operand.Operand.{Operand}
 use Rattle.sp_stmt.specs.declared.statement.Code.{Code}
 use Rattle.sp_stmt.specs.declared.statement.Code.TheVariants as code
 use Rattle.sp_stmt.specs.declared.statement.Statement.{Statement}
-use Rattle.sp_stmt.specs.Bodies.{body, with_register, with_pair, with_stack_pair, alone, moved, plain, with_operands, with_expression, loaded, kind_of, load_with, load_body, end_body, register_instr, pair_instr, stack_instr, move_instr, body_of}
-use Rattle.sp_stmt.specs.Data.{in_front, text_operand, lone_text, byte_item, item_of, behind, one_operand, data_of, items_of}
-use Rattle.sp_stmt.specs.Expressions.{used_as, checked_words, expression_of, operand_from, operand_of}
+use Rattle.sp_stmt.specs.code.Bodies.{body, with_register, with_pair, with_stack_pair, alone, moved, plain, with_operands, with_expression, loaded, kind_of, load_with, load_body, end_body, register_instr, pair_instr, stack_instr, move_instr, body_of}
+use Rattle.sp_stmt.specs.code.Data.{in_front, text_operand, lone_text, byte_item, item_of, behind, one_operand, data_of, items_of}
+use Rattle.sp_stmt.specs.Operands.{used_as}
+use Rattle.sp_stmt.specs.code.Expressions.{checked_words, expression_of, operand_from, operand_of}
 use Rattle.sp_stmt.specs.Mnemonics.{mnemonic_named}
-use Rattle.sp_stmt.specs.Reading.{Fault, with_first, then_statements, is_statement, statements_from, statements_of, statement, with_body, refuses_label, with_code, coded, labelled, assigned, unlabelled, statement_of}
+use Rattle.sp_stmt.specs.code.Reading.{Fault, with_first, then_statements, is_statement, statements_from, statements_of, statement, with_body, refuses_label, with_code, coded, labelled, assigned, unlabelled, statement_of}
 use Rattle.sp_stmt.specs.Statements.{IsInTable, HaveTree, IsExpressed, IsItem, operand_kind, AreUsedAs, AreFor, IsStatement}
 use Rattle.sp_stmt.specs.Tokens.{name_at, arg_at, pair_at, stack_pair_at, mnemonic_at, is_comma, is_colon, own_name_at, assignment_at}
 

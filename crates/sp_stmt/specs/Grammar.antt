@@ -1,7 +1,7 @@
 -- How a line is written that is a statement (8080 Assembly Language Programming Manual, "Assembly language instruction format" and the
 -- descriptions of instructions and directives; names of at most 31 characters, labels alone on a line and no label before ORG and END
 -- are this project's own).
-use Rattle.std.specs.Prelude.{◌≡◌, ◌⊎◌, ◌↔◌, ◌≤◌, ℕ, List, [], ◌∷◌, ◌++◌, Option, Some, None, Ok, Err, IsTrue, IsFalse, codes, All, ⊤}
+use Rattle.std.specs.Prelude.{◌≡◌, ◌⊎◌, ◌≤◌, ℕ, List, [], ◌∷◌, ◌++◌, Option, Some, None, IsTrue, IsFalse, codes, ⊤}
 use Rattle.sp_base.specs.declared.pair.Pair.{Pair}
 use Rattle.sp_base.specs.declared.pair.Pair.TheVariants as pair
 use Rattle.sp_base.specs.declared.location.Reg.{Reg}
@@ -9,7 +9,6 @@ use Rattle.sp_base.specs.declared.location.Reg.TheVariants as reg
 use Rattle.sp_lex.specs.declared.token.Token.{Token}
 use Rattle.sp_lex.specs.declared.token.TokenKind.TheVariants as token
 use Rattle.sp_lex.specs.Texts.{characters_of}
-use Rattle.sp_expr.specs.declared.refusal.ParseRefusal.TheVariants.{Syntax, TooDeep}
 use Rattle.sp_expr.specs.declared.word.Word.{Word}
 use Rattle.sp_expr.specs.Reserved.{is_reserved}
 use Rattle.sp_expr.specs.Trees.{Tree, Spells, depth_of}
@@ -30,9 +29,8 @@ use Rattle.sp_stmt.specs.declared.operand.Operand.TheVariants as operand
 use Rattle.sp_stmt.specs.declared.statement.Code.{Code}
 use Rattle.sp_stmt.specs.declared.statement.Code.TheVariants as code
 use Rattle.sp_stmt.specs.declared.statement.Statement.{Statement}
-use Rattle.sp_stmt.specs.Expressions.{used_as}
+use Rattle.sp_stmt.specs.Operands.{used_as}
 use Rattle.sp_stmt.specs.Manual.{mnemonic_of}
-use Rattle.sp_stmt.specs.Reading.{statement_of}
 use Rattle.sp_stmt.specs.Tokens.{is_comma, is_colon, name_at}
 
 -- the names of registers, of pairs by their first registers, and of what PUSH and POP take
@@ -234,11 +232,8 @@ IsShallow (operand.Byte ws) = NestsWithin ws
 IsShallow (operand.Word ws) = NestsWithin ws
 IsShallow (operand.Restart ws) = NestsWithin ws
 
--- a line is read as the statement that it is; it is TooDeep where one of its expressions nests too deep, and Syntax where it is none
-pub record LinesAreStatements : Type 0 where
-  pub read : (source : List ℕ) (number : ℕ) (tokens : List Token) (s : Statement)
-      → (statement_of source number tokens ≡ Ok s) ↔ (IsLine source number tokens s × All IsShallow s.operands)
-  pub deep : (source : List ℕ) (number : ℕ) (tokens : List Token)
-      → (statement_of source number tokens ≡ Err TooDeep) ↔ ((s : Statement) × IsLine source number tokens s × ¬ All IsShallow s.operands)
-  pub none : (source : List ℕ) (number : ℕ) (tokens : List Token)
-      → (statement_of source number tokens ≡ Err Syntax) ↔ ((s : Statement) → ¬ IsLine source number tokens s)
+-- a line is one statement at most
+abbrev pub LinesAreOneStatement : Type 0
+LinesAreOneStatement =
+    (source : List ℕ) (number : ℕ) (tokens : List Token) (one other : Statement)
+    → IsLine source number tokens one → IsLine source number tokens other → one ≡ other

@@ -1,12 +1,9 @@
-pub mod Answers
-pub mod Bodies
-pub mod Data
-pub mod Expressions
+pub mod code
 pub mod Grammar
-pub mod Held
 pub mod Manual
 pub mod Mnemonics
-pub mod Reading
+pub mod Operands
 pub mod Registers
+pub mod Source
 pub mod Statements
 pub mod Tokens

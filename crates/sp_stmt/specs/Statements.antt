@@ -12,7 +12,7 @@ use Rattle.sp_stmt.specs.declared.operand.Operand.TheVariants as operand
 use Rattle.sp_stmt.specs.declared.statement.Code.{Code}
 use Rattle.sp_stmt.specs.declared.statement.Code.TheVariants as code
 use Rattle.sp_stmt.specs.declared.statement.Statement.{Statement}
-use Rattle.sp_stmt.specs.Expressions.{used_as}
+use Rattle.sp_stmt.specs.Operands.{used_as}
 
 -- an instruction is one of the table
 abbrev pub IsInTable : Code → Type 0

@@ -1,8 +1,8 @@
 ghost use Rattle.std.specs.Prelude.{◌≡◌};
 ghost use Rattle.sp_expr.specs.Words.{AreIn, IsIn};
-ghost use Rattle.sp_stmt.specs.Answers.{Answers};
-ghost use Rattle.sp_stmt.specs.Bodies.{plain, with_expression, loaded, kind_of, load_body, end_body, body_of, with_operands};
-ghost use Rattle.sp_stmt.specs.Data.{items_of, data_of};
+ghost use Rattle.sp_stmt.specs.code.Answers.{Answers};
+ghost use Rattle.sp_stmt.specs.code.Bodies.{plain, with_expression, loaded, kind_of, load_body, end_body, body_of, with_operands};
+ghost use Rattle.sp_stmt.specs.code.Data.{items_of, data_of};
 ghost use Rattle.sp_stmt.specs.declared.statement.Code.TheVariants as codes;
 
 use crate::data::data_of;
@@ -85,7 +85,7 @@ fn kind_of(form: Load) -> ExpressionKind
     }
 }
 
-#[tactic(auto, unfolding(crate::specs::Bodies::load_body))]
+#[tactic(auto, unfolding(crate::specs::code::Bodies::load_body))]
 fn load_body(
     alloc: Global,
     form: Load,
@@ -137,7 +137,7 @@ fn end_body(alloc: Global, source: &[u8], tokens: &[Token]) -> Result<Body, Pars
 }
 
 /// A mnemonic or directive with the tokens behind it.
-#[tactic(auto, unfolding(crate::specs::Bodies::body_of))]
+#[tactic(auto, unfolding(crate::specs::code::Bodies::body_of))]
 pub(crate) fn body_of(
     alloc: Global,
     mnemonic: Mnemonic,

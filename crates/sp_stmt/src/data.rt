@@ -1,8 +1,8 @@
 ghost use Rattle.std.specs.Prelude.{◌≡◌, ◌≤◌, [], ◌∷◌, length, take, drop, IfSome};
 ghost use Rattle.sp_expr.specs.Words.{AreIn};
 ghost use Rattle.sp_lex.specs.Texts.{characters_of};
-ghost use Rattle.sp_stmt.specs.Answers.{Answers};
-ghost use Rattle.sp_stmt.specs.Data.{items_of, items_behind, text_operand, lone_text, byte_item, item_of, data_of, behind, one_operand};
+ghost use Rattle.sp_stmt.specs.code.Answers.{Answers};
+ghost use Rattle.sp_stmt.specs.code.Data.{items_of, items_behind, text_operand, lone_text, byte_item, item_of, data_of, behind, one_operand};
 
 use crate::expression::operand;
 use crate::mnemonic::{DataKind, ExpressionKind};
@@ -55,7 +55,7 @@ fn byte_item(alloc: Global, source: &[u8], item: &[Token]) -> Result<Operand, Pa
     }
 }
 
-#[tactic(auto, unfolding(crate::specs::Data::item_of))]
+#[tactic(auto, unfolding(crate::specs::code::Data::item_of))]
 fn item_of(
     alloc: Global,
     kind: DataKind,
@@ -86,7 +86,7 @@ fn item_len(source: &[u8], tokens: &[Token]) -> usize
 }
 
 impl Items {
-    ghost use Rattle.sp_stmt.specs.Held.{held, AnswersItem};
+    ghost use Rattle.sp_stmt.specs.code.Held.{held, AnswersItem};
 
     fn empty(alloc: Global) -> Items
         ensures { held result ≡ Ok [] }

@@ -1,7 +1,8 @@
 ghost use Rattle.std.specs.Prelude.{◌≡◌};
 ghost use Rattle.sp_expr.specs.Words.{AreIn};
-ghost use Rattle.sp_stmt.specs.Answers.{Answers};
-ghost use Rattle.sp_stmt.specs.Expressions.{expression_of, used_as, operand_of};
+ghost use Rattle.sp_stmt.specs.code.Answers.{Answers};
+ghost use Rattle.sp_stmt.specs.Operands.{used_as};
+ghost use Rattle.sp_stmt.specs.code.Expressions.{expression_of, operand_of};
 
 use crate::mnemonic::ExpressionKind;
 use crate::operand::Operand;

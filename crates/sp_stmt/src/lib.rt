@@ -16,11 +16,11 @@ mod register;
 mod statement;
 mod tokens;
 
-pub use laws::{lines_are_statements, names_are_the_manuals, reserved_words_have_meanings};
+pub use laws::{
+    a_line_is_one_statement, a_source_has_one_answer, names_are_the_manuals,
+    reserved_words_have_meanings,
+};
 pub use operand::{Characters, Operand, Operands};
 pub use reading::statements;
-pub use refusal::StatementRefusal;
+pub use refusal::{StatementKind, StatementRefusal};
 pub use statement::{Code, Statement, Statements};
-
-#[cfg(test)]
-mod tests;

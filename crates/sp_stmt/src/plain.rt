@@ -1,6 +1,6 @@
 ghost use Rattle.std.specs.Prelude.{◌≡◌};
 ghost use Rattle.sp_expr.specs.Words.{AreIn};
-ghost use Rattle.sp_stmt.specs.Bodies.{with_register, with_pair, with_stack_pair, alone, register_instr, pair_instr, stack_instr, moved, move_instr};
+ghost use Rattle.sp_stmt.specs.code.Bodies.{with_register, with_pair, with_stack_pair, alone, register_instr, pair_instr, stack_instr, moved, move_instr};
 
 use crate::mnemonic::{PairForm, RegisterForm, StackForm};
 use crate::tokens::{arg_at, is_comma, pair_at, stack_pair_at};
@@ -50,7 +50,7 @@ pub(crate) fn alone(instr: Instr, tokens: &[Token]) -> Option<Instr>
 }
 
 /// An instruction with a register or M.
-#[tactic(auto, unfolding(crate::specs::Bodies::register_instr))]
+#[tactic(auto, unfolding(crate::specs::code::Bodies::register_instr))]
 pub(crate) fn register_instr(source: &[u8], form: RegisterForm, tokens: &[Token]) -> Option<Instr>
     requires { AreIn source.now tokens.now }
     ensures { result ≡ register_instr source.now form tokens.now }
@@ -63,7 +63,7 @@ pub(crate) fn register_instr(source: &[u8], form: RegisterForm, tokens: &[Token]
 }
 
 /// An instruction with a register pair. Not every one is in the table.
-#[tactic(auto, unfolding(crate::specs::Bodies::pair_instr))]
+#[tactic(auto, unfolding(crate::specs::code::Bodies::pair_instr))]
 pub(crate) fn pair_instr(source: &[u8], form: PairForm, tokens: &[Token]) -> Option<Instr>
     requires { AreIn source.now tokens.now }
     ensures { result ≡ pair_instr source.now form tokens.now }
@@ -76,7 +76,7 @@ pub(crate) fn pair_instr(source: &[u8], form: PairForm, tokens: &[Token]) -> Opt
 }
 
 /// An instruction with a pair that is pushed or popped.
-#[tactic(auto, unfolding(crate::specs::Bodies::stack_instr))]
+#[tactic(auto, unfolding(crate::specs::code::Bodies::stack_instr))]
 pub(crate) fn stack_instr(source: &[u8], form: StackForm, tokens: &[Token]) -> Option<Instr>
     requires { AreIn source.now tokens.now }
     ensures { result ≡ stack_instr source.now form tokens.now }
@@ -98,7 +98,7 @@ fn moved(to: Option<Arg>, from: Option<Arg>) -> Option<Instr>
 }
 
 /// MOV with its two operands. That of M and M isn't in the table.
-#[tactic(auto, unfolding(crate::specs::Bodies::move_instr))]
+#[tactic(auto, unfolding(crate::specs::code::Bodies::move_instr))]
 pub(crate) fn move_instr(source: &[u8], tokens: &[Token]) -> Option<Instr>
     requires { AreIn source.now tokens.now }
     ensures { result ≡ move_instr source.now tokens.now }

@@ -1,17 +1,20 @@
 ghost use Rattle.std.specs.Prelude.{◌≡◌, ◌≤◌, ◌<◌, ◌+◌, length, count_by, IfOk, All};
+ghost use Rattle.sp_base.specs.Refused.{IsComplete};
+ghost use Rattle.sp_base.specs.Refused as refusal;
 ghost use Rattle.sp_expr.specs.Words.{AreIn};
 ghost use Rattle.sp_lex.specs.Reading.{AreLines};
-ghost use Rattle.sp_stmt.specs.Answers.{Answers, AnswersStatements};
-ghost use Rattle.sp_stmt.specs.Reading.{statement, refuses_label, coded, labelled, assigning, assigned, statement_of, is_statement, statements_of};
+ghost use Rattle.sp_stmt.specs.code.Answers.{Answers, refusal_at};
+ghost use Rattle.sp_stmt.specs.code.Reading.{statement, refuses_label, coded, labelled, assigning, assigned, statement_of, is_statement};
+ghost use Rattle.sp_stmt.specs.Source.{AreStatementsOf, IsUnread};
 ghost use Rattle.sp_stmt.specs.Statements.{IsStatement};
 
 use crate::body::{Body, body_of, with_expression};
 use crate::mnemonic::{Assignment, ExpressionKind, Mnemonic};
 use crate::operand::Operands;
-use crate::refusal::{StatementRefusal, refusal_at};
+use crate::refusal::{StatementKind, StatementRefusal};
 use crate::statement::{Code, Statement, Statements};
 use crate::tokens::{assignment_at, is_colon, mnemonic_at, own_name_at};
-use sp_base::{Line, Name};
+use sp_base::{Line, Name, Refused};
 use sp_expr::ParseRefusal;
 use sp_lex::{LineKind, Lines, SourceLine, Token};
 use std::alloc::Global;
@@ -39,7 +42,7 @@ fn refuses_label(mnemonic: Mnemonic) -> bool
 }
 
 /// A statement with this label, if any, and a code.
-#[tactic(auto, unfolding(crate::specs::Reading::coded))]
+#[tactic(auto, unfolding(crate::specs::code::Reading::coded))]
 fn coded(
     alloc: Global,
     line: Line,
@@ -118,7 +121,7 @@ fn assigned(
 }
 
 /// The statement of a line.
-#[tactic(auto, unfolding(crate::specs::Reading::statement_of))]
+#[tactic(auto, unfolding(crate::specs::code::Reading::statement_of))]
 fn statement_of(
     alloc: Global,
     line: Line,
@@ -152,6 +155,17 @@ fn is_statement(line: &SourceLine) -> bool
     }
 }
 
+/// The refusal of a source for that of this line.
+fn refusal_at(refusal: ParseRefusal, line: Line) -> StatementRefusal
+    ensures { result ≡ refusal_at refusal line }
+{
+    match refusal {
+        ParseRefusal::Syntax => Refused::At(line, StatementKind::Syntax),
+        ParseRefusal::TooDeep => Refused::At(line, StatementKind::TooDeep),
+        ParseRefusal::Memory => Refused::Memory,
+    }
+}
+
 /// How many statements lines have.
 fn statement_count(lines: &[SourceLine]) -> usize
     ensures { result ≡ count_by (λ line. is_statement line.kind) lines.now }
@@ -159,8 +173,8 @@ fn statement_count(lines: &[SourceLine]) -> usize
     lines.iter().filter(|line| is_statement(line)).count()
 }
 
-/// The statements of a source's lines, or the refusal of the lowest line that isn't a statement. Annotations and empty
-/// lines are passed over.
+/// The statements of a source's lines. A refusal names the lowest line that is no statement; annotations and empty lines
+/// have none.
 pub fn statements(
     alloc: Global,
     source: &[u8],
@@ -168,7 +182,8 @@ pub fn statements(
 ) -> Result<Statements, StatementRefusal>
     requires lines { AreLines source.now lines.now }
     requires short { length source.now < 4294967295 }
-    ensures right { AnswersStatements result (statements_of source.now lines.now) }
+    ensures right { refusal.Answers (AreStatementsOf source.now lines.now) (IsUnread source.now lines.now) result }
+    ensures complete { IsComplete (AreStatementsOf source.now lines.now) (IsUnread source.now lines.now) result }
     ensures each { IfOk result (λ found. All IsStatement found) }
 {
     let lines = lines.as_slice();

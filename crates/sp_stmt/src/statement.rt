@@ -1,9 +1,6 @@
-ghost use Rattle.std.specs.Prelude.{◌≡◌};
-
 use crate::operand::Operands;
-use sp_base::{Line, Name};
+use sp_base::{Line, Name, Seq};
 use sp_isa::Instr;
-use std::marker::Model;
 
 /// What a statement is: an instruction or a directive.
 #[derive(Clone, Copy, Debug)]
@@ -36,33 +33,5 @@ pub struct Statement {
     pub operands: Operands,
 }
 
-/// The statements of a source, by rising line. Contracts see a list.
-#[derive(Debug, Drop)]
-pub struct Statements {
-    items: Vec<Statement>,
-}
-
-impl Model for Statements {
-    ghost use Rattle.std.specs.Prelude.{List};
-    ghost use Rattle.sp_stmt.specs.declared.statement.Statement.{Statement};
-
-    ghost Value = { List Statement };
-
-    ghost view = { λ statements. statements.items.items };
-}
-
-impl Statements {
-    /// The list of these statements.
-    pub fn from_vec(items: Vec<Statement>) -> Statements
-        ensures { result ≡ items.items }
-    {
-        Statements { items }
-    }
-
-    /// The statements in order.
-    pub fn as_slice(&self) -> &[Statement]
-        ensures { result.now ≡ self.now }
-    {
-        self.items.as_slice()
-    }
-}
+/// The statements of a source, by rising line.
+pub type Statements = Seq<Statement>;

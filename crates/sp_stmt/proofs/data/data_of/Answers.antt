@@ -2,8 +2,8 @@ use Rattle.std.proofs.Common.{◌≡◌, ◌-◌, [], length, drop, sym, ap, ◌
 use Rattle.std.proofs.lemmas.List.Elements.{All-drop, All-same, All-take}
 use Rattle.std.proofs.lemmas.Result.{err_from_is_err_and}
 use Rattle.sp_expr.specs.Words.{IsIn}
-use Rattle.sp_stmt.specs.Data.{items_behind, behind, one_operand, item_of, data_of}
-use Rattle.sp_stmt.specs.Held.{held}
+use Rattle.sp_stmt.specs.code.Data.{items_behind, behind, one_operand, item_of, data_of}
+use Rattle.sp_stmt.specs.code.Held.{held}
 use Rattle.sp_stmt.proofs.AnswerLaws.{exact}
 use Rattle.sp_stmt.proofs.ItemLaws.{data_of-more, data_of-last, items_behind-comma, item_refused}
 use Rattle.sp_stmt.proofs.data.data_of.Goals as goal

@@ -1,7 +1,7 @@
 use Rattle.std.proofs.Common.{◌≡◌, length}
 use Rattle.sp_expr.specs.Words.{AreIn}
-use Rattle.sp_stmt.specs.Data.{items_of, behind, data_of}
-use Rattle.sp_stmt.specs.Held.{held}
+use Rattle.sp_stmt.specs.code.Data.{items_of, behind, data_of}
+use Rattle.sp_stmt.specs.code.Held.{held}
 use Rattle.sp_stmt.proofs.data.data_of.Given as goal
 
 abbrev pub invariant-loop-items : goal.invariant-loop-items

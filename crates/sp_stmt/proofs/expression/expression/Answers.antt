@@ -1,5 +1,5 @@
 use Rattle.sp_expr.specs.Words.{words_of}
-use Rattle.sp_stmt.specs.Expressions.{expression_of}
+use Rattle.sp_stmt.specs.code.Expressions.{expression_of}
 use Rattle.sp_stmt.proofs.AnswerLaws.{parsed}
 use Rattle.sp_stmt.proofs.expression.expression.Goals as goal
 

@@ -1,6 +1,6 @@
 use Rattle.std.proofs.Common.{refl, ap}
 use Rattle.std.proofs.lemmas.Result.{err_from_is_err_and}
-use Rattle.sp_stmt.specs.Expressions.{operand_of, operand_from, expression_of}
+use Rattle.sp_stmt.specs.code.Expressions.{operand_of, operand_from, expression_of}
 use Rattle.sp_stmt.proofs.AnswerLaws.{refused}
 use Rattle.sp_stmt.proofs.expression.operand.Goals as goal
 

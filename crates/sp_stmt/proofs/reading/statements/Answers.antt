@@ -1,6 +1,11 @@
-use Rattle.std.proofs.Common.{◌+◌, Ok, sym, ap, length, ◌∙◌, arith}
-use Rattle.sp_stmt.specs.Reading.{statements_of}
+use Rattle.std.proofs.Common.{◌≡◌, ◌+◌, List, Result, Ok, Err, sym, ap, length, ◌∙◌, arith}
+use Rattle.sp_base.specs.declared.refused.Refused.{Refused}
+use Rattle.sp_stmt.specs.declared.refusal.StatementKind.{StatementKind}
+use Rattle.sp_stmt.specs.declared.statement.Statement.{Statement}
+use Rattle.sp_stmt.specs.code.Answers.{AnswersStatements}
+use Rattle.sp_stmt.specs.code.Reading.{statements_of}
 use Rattle.sp_stmt.proofs.LineLaws.{length-lines, line_in, in_order-skip, in_order-more, in_order-refused, in_order-all}
+use Rattle.sp_stmt.proofs.SourceLemmas.{right_by, complete_by}
 use Rattle.sp_stmt.proofs.StatementLaws.{statements_are}
 use Rattle.sp_stmt.proofs.reading.statements.Goals as goal
 
@@ -16,10 +21,17 @@ pub statement_of-requires : goal.statement_of-requires
 statement_of-requires c =
     line_in c.args.source.now c.args.lines.now c.as_slice-lines.result.now c.loop-i.i c.index-lines-i.result c.as_slice.result.now c.requires.lines c.as_slice-lines.ensures c.loop-i-test.true c.index-lines-i.is c.as_slice.ensures
 
-pub returns-in-Err-clause-right : goal.returns-in-Err-clause-right
-returns-in-Err-clause-right c =
+pub returns-in-Err : goal.returns-in-Err
+returns-in-Err c =
+    let result : Result (List Statement) (Refused StatementKind) = Err c.refusal_at.result in
+    let right : AnswersStatements result (statements_of c.args.source.now c.args.lines.now) =
     rw c.refusal_at.ensures (in_order-refused c.args.source.now c.as_slice-lines.result.now (record { 0 = c.loop-i.i + 1 }) c.loop-i.i c.index-lines-i.result c.as_slice.result.now c.loop-i.statements.items c.in-Err.refusal _ c.loop-i-test.true
-    c.index-lines-i.is (sym c.is_statement.ensures ∙ c.if-not-is_statement.false) c.as_slice.ensures c.in-Err.ensures (c.loop-i.invariant ∙ ap (statements_of c.args.source.now) c.as_slice-lines.ensures))
+    c.index-lines-i.is (sym c.is_statement.ensures ∙ c.if-not-is_statement.false) c.as_slice.ensures c.in-Err.ensures (c.loop-i.invariant ∙ ap (statements_of c.args.source.now) c.as_slice-lines.ensures)) in
+    record {
+      right = right_by c.args.source.now c.args.lines.now result right;
+      complete = complete_by c.args.source.now c.args.lines.now result right;
+      each = tt;
+    }
 
 pub loop-i-preserved : goal.loop-i-preserved
 loop-i-preserved c =
@@ -27,13 +39,13 @@ loop-i-preserved c =
     (sym c.is_statement.ensures ∙ c.if-not-is_statement.false) c.as_slice.ensures c.in-Ok.ensures c.in_ok-push-in-Ok.ensures.items
     ∙ c.loop-i.invariant
 
-pub returns-clause-right : goal.returns-clause-right
-returns-clause-right c =
+pub returns : goal.returns
+returns c =
+    let read : statements_of c.args.source.now c.args.lines.now ≡ Ok c.from_vec.result =
     sym (ap (statements_of c.args.source.now) c.as_slice-lines.ensures) ∙ sym c.loop-i.invariant
-    ∙ in_order-all c.args.source.now c.as_slice-lines.result.now (c.loop-i.i + 1) c.loop-i.i c.loop-i.statements.items c.loop-i-test.false ∙ ap (λ ss. Ok ss) (sym c.from_vec.ensures)
-
-pub returns-clause-each : goal.returns-clause-each
-returns-clause-each c =
-    statements_are c.args.source.now c.args.lines.now c.from_vec.result
-    (sym (ap (statements_of c.args.source.now) c.as_slice-lines.ensures) ∙ sym c.loop-i.invariant
-    ∙ in_order-all c.args.source.now c.as_slice-lines.result.now (c.loop-i.i + 1) c.loop-i.i c.loop-i.statements.items c.loop-i-test.false ∙ ap (λ ss. Ok ss) (sym c.from_vec.ensures))
+    ∙ in_order-all c.args.source.now c.as_slice-lines.result.now (c.loop-i.i + 1) c.loop-i.i c.loop-i.statements.items c.loop-i-test.false ∙ ap (λ ss. Ok ss) (sym c.from_vec.ensures) in
+    record {
+      right = right_by c.args.source.now c.args.lines.now (Ok c.from_vec.result) read;
+      complete = complete_by c.args.source.now c.args.lines.now (Ok c.from_vec.result) read;
+      each = statements_are c.args.source.now c.args.lines.now c.from_vec.result read;
+    }

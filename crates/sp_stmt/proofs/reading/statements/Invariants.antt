@@ -1,5 +1,5 @@
 use Rattle.std.proofs.Common.{◌≡◌, ◌+◌, drop}
-use Rattle.sp_stmt.specs.Reading.{statements_from, statements_of}
+use Rattle.sp_stmt.specs.code.Reading.{statements_from, statements_of}
 use Rattle.sp_stmt.proofs.LineLaws.{in_order}
 use Rattle.sp_stmt.proofs.reading.statements.Given as goal
 

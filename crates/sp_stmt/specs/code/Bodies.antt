@@ -26,8 +26,8 @@ use Rattle.sp_stmt.specs.declared.mnemonic.StackForm.TheVariants.{Push, Pop}
 use Rattle.sp_stmt.specs.declared.operand.Operand.{Operand}
 use Rattle.sp_stmt.specs.declared.statement.Code.{Code}
 use Rattle.sp_stmt.specs.declared.statement.Code.TheVariants as code
-use Rattle.sp_stmt.specs.Data.{items_of, data_of, one_operand}
-use Rattle.sp_stmt.specs.Expressions.{operand_of}
+use Rattle.sp_stmt.specs.code.Data.{items_of, data_of, one_operand}
+use Rattle.sp_stmt.specs.code.Expressions.{operand_of}
 use Rattle.sp_stmt.specs.Tokens.{is_comma, arg_at, pair_at, stack_pair_at}
 
 abbrev pub body : Code → List Operand → Body

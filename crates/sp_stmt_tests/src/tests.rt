@@ -1,9 +1,7 @@
-use crate::mnemonic::{DataKind, Load, MNEMONICS, Mnemonic, mnemonic_named};
-use crate::{Code, Operand, Statement, StatementRefusal, statements};
-use sp_base::{Line, Name};
-use sp_expr::is_reserved;
+use sp_base::{Line, Name, Refused};
 use sp_isa::{Instr, encode, valid};
 use sp_lex::lines;
+use sp_stmt::{Code, Operand, Statement, StatementKind, statements};
 use std::alloc::Global;
 use std::process::Abort;
 use std::test::Fail;
@@ -87,13 +85,13 @@ fn shown(rt: &impl Abort, alloc: Global, source: &[u8]) -> Result<String, Fail> 
                 push_statement(alloc, &mut text, statement)?;
             }
         }
-        Err(StatementRefusal::Syntax(Line(n))) => {
+        Err(Refused::At(Line(n), StatementKind::Syntax)) => {
             text.push_str(format!(in alloc; "syntax {n}")?.as_str())?
         }
-        Err(StatementRefusal::TooDeep(Line(n))) => {
+        Err(Refused::At(Line(n), StatementKind::TooDeep)) => {
             text.push_str(format!(in alloc; "deep {n}")?.as_str())?
         }
-        Err(StatementRefusal::Memory) => text.push_str("memory")?,
+        Err(Refused::Memory) => text.push_str("memory")?,
     }
     Ok(text)
 }
@@ -108,7 +106,7 @@ fn expect(rt: &impl Abort, alloc: Global, table: &[(&[u8], &str)]) -> Result<(),
 }
 
 /// Instructions of registers alone, with the bytes of the manual.
-const REGISTER_CODES: [(&[u8], &str); 63] = [
+static REGISTER_CODES: [(&[u8], &str); 63] = [
     (b"CMC", "1 3F;"),
     (b"STC", "1 37;"),
     (b"INR C", "1 0C;"),
@@ -175,7 +173,7 @@ const REGISTER_CODES: [(&[u8], &str); 63] = [
 ];
 
 /// Instructions and directives with an expression.
-const EXPRESSION_CODES: [(&[u8], &str); 48] = [
+static EXPRESSION_CODES: [(&[u8], &str); 48] = [
     (b"LXI B,5", "1 01 w1;"),
     (b"LXI D,5", "1 11 w1;"),
     (b"LXI H,5", "1 21 w1;"),
@@ -232,37 +230,28 @@ fn instructions_have_their_codes(rt: HostRuntime) -> Result<(), Fail> {
     expect(&rt, rt.alloc(), &EXPRESSION_CODES)
 }
 
-/// Operands that aren't those of a form, with commas and blanks as in a source.
-fn wrong_operands(mnemonic: Mnemonic) -> &'static [&'static [u8]] {
-    match mnemonic {
-        Mnemonic::Alone(_) => &[b"A", b"1", b","],
-        Mnemonic::Register(_) => &[b"", b"SP", b"PSW", b"BC", b"1", b"A,B", b"A B", b"'A'"],
-        Mnemonic::Pair(_) => &[b"", b"A", b"C", b"PSW", b"BC", b"1", b"B,D", b"B D"],
-        Mnemonic::Stack(_) => &[b"", b"A", b"C", b"SP", b"1", b"B,D"],
-        Mnemonic::Move => &[
-            b"", b"A", b"A,", b"A,1", b"M,M", b"A B", b"A,B,C", b"SP,A", b"A:B",
-        ],
-        Mnemonic::Load(Load::Byte) => &[b"", b"A", b"A,", b"SP,1", b"1,A", b"A,1,2", b"A 1"],
-        Mnemonic::Load(Load::Word) => &[b"", b"B", b"B,", b"A,1", b"PSW,1", b"B,1,2", b"B 1"],
-        Mnemonic::Expression(..) => &[b"", b"A", b"1,2", b"'AB'", b"1 2", b"1:"],
-        Mnemonic::Data(DataKind::Bytes) => &[
-            b"", b",", b"1,", b",1", b"1,,2", b"A", b"''", b"1,''",
-        ],
-        Mnemonic::Data(DataKind::Words) => &[b"", b",", b"1,", b",1", b"1,,2", b"A", b"'AB'"],
-        Mnemonic::Space | Mnemonic::Org => &[b"", b"A", b"1,2", b"'AB'", b"1 2"],
-        Mnemonic::Assignment(_) => &[b"", b"5", b"A", b"X,5"],
-        Mnemonic::End => &[b"A", b"1,2", b"'AB'", b"1 2"],
-    }
-}
+/// Mnemonics and directives with operands of another form, divided by `|`.
+static WRONG_OPERANDS: [(&[u8], &[u8]); 14] = [
+    (b"NOP", b"A|1|,"),
+    (b"INR", b"|SP|PSW|BC|1|A,B|A B|'A'"),
+    (b"DAD", b"|A|C|PSW|BC|1|B,D|B D"),
+    (b"STAX", b"|A|H|SP|1"),
+    (b"PUSH", b"|A|C|SP|1|B,D"),
+    (b"MOV", b"|A|A,|A,1|M,M|A B|A,B,C|SP,A|A:B"),
+    (b"MVI", b"|A|A,|SP,1|1,A|A,1,2|A 1"),
+    (b"LXI", b"|B|B,|A,1|PSW,1|B,1,2|B 1"),
+    (b"JMP", b"|A|1,2|'AB'|1 2|1:"),
+    (b"DB", b"|,|1,|,1|1,,2|A|''|1,''"),
+    (b"DW", b"|,|1,|,1|1,,2|A|'AB'"),
+    (b"ORG", b"|A|1,2|'AB'|1 2"),
+    (b"EQU", b"|5|A|X,5"),
+    (b"END", b"A|1,2|'AB'|1 2"),
+];
 
-/// Whether each mnemonic of a table refuses operands of another form.
-fn expect_refusals(
-    rt: &impl Abort,
-    alloc: Global,
-    table: &[(&[u8], Mnemonic)],
-) -> Result<(), Fail> {
-    for (name, mnemonic) in table {
-        for operands in wrong_operands(*mnemonic) {
+/// Whether each of these names refuses each of its operands.
+fn expect_syntax(rt: &impl Abort, alloc: Global, table: &[(&[u8], &[u8])]) -> Result<(), Fail> {
+    for (name, all) in table {
+        for operands in all.split(|byte| *byte == b'|') {
             let mut source = Vec::from_slice(alloc, b"\n ")?;
             source.extend_from_slice(name)?;
             source.push(b' ')?;
@@ -275,35 +264,12 @@ fn expect_refusals(
 }
 
 #[test]
-fn each_mnemonic_refuses_wrong_operands(rt: HostRuntime) -> Result<(), Fail> {
-    expect_refusals(&rt, rt.alloc(), &MNEMONICS)
-}
-
-/// Whether each mnemonic of a table is found, is a reserved word, and is no label.
-fn expect_mnemonics(
-    rt: &impl Abort,
-    alloc: Global,
-    table: &[(&[u8], Mnemonic)],
-) -> Result<(), Fail> {
-    for (name, _) in table {
-        assert!(rt; is_reserved(name), "{name:?}");
-        assert!(rt; mnemonic_named(name).is_some(), "{name:?}");
-        let mut source = Vec::from_slice(alloc, name)?;
-        source.extend_from_slice(b": NOP")?;
-        let found = shown(rt, alloc, source.as_slice())?;
-        assert_eq!(rt; found.as_str(), "syntax 1", "at {name:?}");
-    }
-    Ok(())
-}
-
-#[test]
-fn mnemonics_are_found_and_are_no_names(rt: HostRuntime) -> Result<(), Fail> {
-    assert!(rt; mnemonic_named(b"nop").is_none() && mnemonic_named(b"RIM").is_none());
-    expect_mnemonics(&rt, rt.alloc(), &MNEMONICS)
+fn mnemonics_refuse_wrong_operands(rt: HostRuntime) -> Result<(), Fail> {
+    expect_syntax(&rt, rt.alloc(), &WRONG_OPERANDS)
 }
 
 /// Sources with their statements, or the line of their refusal.
-const FORMS: [(&[u8], &str); 66] = [
+static FORMS: [(&[u8], &str); 66] = [
     (b"", ""),
     (b"; only a comment\n\n;# stack 1, 2\n", ""),
     (b"x:", "1 X: nothing;"),
@@ -397,36 +363,38 @@ fn nested(alloc: Global, front: &[u8], depth: usize, back: &[u8]) -> Result<Vec<
     Ok(text)
 }
 
+/// Parentheses nested so deep between a front and a back.
+static DEPTHS: [(&[u8], usize, &[u8], &str); 22] = [
+    (b"DB ", 64, b"", "1 data b129;"),
+    (b"DB ", 65, b"", "deep 1"),
+    (b"DB 1,", 65, b",2", "deep 1"),
+    (b"DB ", 65, b",A", "syntax 1"),
+    (b"DB A,", 65, b"", "syntax 1"),
+    (b"DB ", 65, b",''", "syntax 1"),
+    (b"DB ", 65, b",", "syntax 1"),
+    (b"DB ", 65, b" 2", "syntax 1"),
+    (b"DW ", 64, b",1", "1 data w129 w1;"),
+    (b"DW ", 65, b",1", "deep 1"),
+    (b"DW ", 65, b",1,", "syntax 1"),
+    (b"MVI A,", 64, b"", "1 3E b129;"),
+    (b"MVI A,", 65, b"", "deep 1"),
+    (b"MVI SP,", 65, b"", "syntax 1"),
+    (b"LXI SP,", 65, b"", "deep 1"),
+    (b"X: ORG ", 65, b"", "syntax 1"),
+    (b"ORG ", 65, b"", "deep 1"),
+    (b"X EQU ", 65, b"", "deep 1"),
+    (b"A EQU ", 65, b"", "syntax 1"),
+    (b"END ", 65, b"", "deep 1"),
+    (b"NOP\nDB ", 65, b"\nX", "deep 2"),
+    (b"X\nDB ", 65, b"", "syntax 1"),
+];
+
 #[test]
 fn syntax_comes_before_depth_on_a_line(rt: HostRuntime) -> Result<(), Fail> {
-    let table: [(&[u8], usize, &[u8], &str); 22] = [
-        (b"DB ", 64, b"", "1 data b129;"),
-        (b"DB ", 65, b"", "deep 1"),
-        (b"DB 1,", 65, b",2", "deep 1"),
-        (b"DB ", 65, b",A", "syntax 1"),
-        (b"DB A,", 65, b"", "syntax 1"),
-        (b"DB ", 65, b",''", "syntax 1"),
-        (b"DB ", 65, b",", "syntax 1"),
-        (b"DB ", 65, b" 2", "syntax 1"),
-        (b"DW ", 64, b",1", "1 data w129 w1;"),
-        (b"DW ", 65, b",1", "deep 1"),
-        (b"DW ", 65, b",1,", "syntax 1"),
-        (b"MVI A,", 64, b"", "1 3E b129;"),
-        (b"MVI A,", 65, b"", "deep 1"),
-        (b"MVI SP,", 65, b"", "syntax 1"),
-        (b"LXI SP,", 65, b"", "deep 1"),
-        (b"X: ORG ", 65, b"", "syntax 1"),
-        (b"ORG ", 65, b"", "deep 1"),
-        (b"X EQU ", 65, b"", "deep 1"),
-        (b"A EQU ", 65, b"", "syntax 1"),
-        (b"END ", 65, b"", "deep 1"),
-        (b"NOP\nDB ", 65, b"\nX", "deep 2"),
-        (b"X\nDB ", 65, b"", "syntax 1"),
-    ];
-    for (front, depth, back, want) in table {
-        let source = nested(rt.alloc(), front, depth, back)?;
+    for (front, depth, back, want) in &DEPTHS {
+        let source = nested(rt.alloc(), front, *depth, back)?;
         let found = shown(&rt, rt.alloc(), source.as_slice())?;
-        assert_eq!(rt; found.as_str(), want, "at {front:?} {depth} {back:?}");
+        assert_eq!(rt; found.as_str(), *want, "at {front:?} {depth} {back:?}");
     }
     Ok(())
 }

@@ -10,7 +10,7 @@ use Rattle.sp_expr.specs.Words.{words_of}
 use Rattle.sp_stmt.specs.declared.mnemonic.ExpressionKind.{ExpressionKind}
 use Rattle.sp_stmt.specs.declared.mnemonic.ExpressionKind.TheVariants as kind
 use Rattle.sp_stmt.specs.declared.operand.Operand.{Operand}
-use Rattle.sp_stmt.specs.declared.operand.Operand.TheVariants as operand
+use Rattle.sp_stmt.specs.Operands.{used_as}
 
 -- the words of an expression: Syntax where they are none, and else TooDeep where more than 64 constructs are nested
 abbrev pub checked_words : Option (List Word) → Result (List Word) ParseRefusal
@@ -20,11 +20,6 @@ checked_words (Some ws) =
 
 unfoldable pub expression_of : List ℕ → List Token → Result (List Word) ParseRefusal
 expression_of source tokens = checked_words (words_of source tokens)
-
-abbrev pub used_as : ExpressionKind → List Word → Operand
-used_as kind.Byte ws = operand.Byte ws
-used_as kind.Word ws = operand.Word ws
-used_as kind.Restart ws = operand.Restart ws
 
 abbrev pub operand_from : ExpressionKind → Result (List Word) ParseRefusal → Result Operand ParseRefusal
 operand_from kind (Ok ws) = Ok (used_as kind ws)

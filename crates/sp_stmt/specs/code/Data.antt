@@ -12,7 +12,7 @@ use Rattle.sp_stmt.specs.declared.mnemonic.DataKind.TheVariants.{Bytes, Words}
 use Rattle.sp_stmt.specs.declared.mnemonic.ExpressionKind.TheVariants as kind
 use Rattle.sp_stmt.specs.declared.operand.Operand.{Operand}
 use Rattle.sp_stmt.specs.declared.operand.Operand.TheVariants as operand
-use Rattle.sp_stmt.specs.Expressions.{operand_of}
+use Rattle.sp_stmt.specs.code.Expressions.{operand_of}
 use Rattle.sp_stmt.specs.Tokens.{is_comma}
 
 -- a token at the front of the first item

@@ -15,7 +15,7 @@ use Rattle.sp_stmt.specs.declared.mnemonic.Mnemonic.TheVariants as mnemonic
 use Rattle.sp_stmt.specs.declared.statement.Code.{Code}
 use Rattle.sp_stmt.specs.declared.statement.Code.TheVariants as code
 use Rattle.sp_stmt.specs.declared.statement.Statement.{Statement}
-use Rattle.sp_stmt.specs.Bodies.{body, body_of, with_expression}
+use Rattle.sp_stmt.specs.code.Bodies.{body, body_of, with_expression}
 use Rattle.sp_stmt.specs.Tokens.{is_colon, own_name_at, mnemonic_at, assignment_at}
 
 abbrev pub statement : ℕ → Option (List ℕ) → Body → Statement
