@@ -1,133 +1,125 @@
 -- What a source is answered is one.
 use Rattle.std.proofs.Common.{◌≡◌, ◌⊎◌, inl, inr, ℕ, List, refl, sym, ap, subst, ◌∙◌}
 use Rattle.std.specs.Prelude.{Result, Ok, Err}
-use Rattle.sp_base.specs.declared.line.Line.{Line}
+use Rattle.sp_base.specs.declared.refused.Refused.{Refused}
+use Rattle.sp_base.specs.declared.refused.Refused.TheVariants as refused
+use Rattle.sp_base.specs.Refused.{Answers, IsUnlessMemory}
 use Rattle.sp_lex.specs.declared.token.SourceLine.{SourceLine}
-use Rattle.sp_expr.specs.declared.refusal.ParseRefusal.{ParseRefusal}
-use Rattle.sp_expr.specs.declared.refusal.ParseRefusal.TheVariants as parse
+use Rattle.sp_lex.specs.Reading.{AreLines}
+use Rattle.sp_stmt.specs.declared.refusal.StatementKind.{StatementKind}
+use Rattle.sp_stmt.specs.declared.refusal.StatementKind.TheVariants as unread
 use Rattle.sp_stmt.specs.declared.statement.Statement.{Statement}
-use Rattle.sp_stmt.specs.Reading.{Fault, statements_of}
+use Rattle.sp_stmt.specs.Source.{AreStatementsOf, IsUnread}
+use Rattle.sp_stmt.proofs.SourceLemmas.{one_source, one_unread, read_or_unread}
+use Rattle.sp_asm.specs.declared.listing.Listing.{Listing}
 use Rattle.sp_asm.specs.declared.refusal.AsmKind.{AsmKind}
 use Rattle.sp_asm.specs.declared.refusal.AsmKind.TheVariants.{Syntax, TooDeep, Duplicate, Later, Undefined, ZeroDivisor, Range, PastEnd, Overlap}
-use Rattle.sp_asm.specs.declared.refusal.AsmRefusal.{AsmRefusal}
-use Rattle.sp_asm.specs.declared.refusal.AsmRefusal.TheVariants as refusal
-use Rattle.sp_asm.specs.Answers.{kind_at}
-use Rattle.sp_asm.specs.Assembly.{Row, IsAssembly}
-use Rattle.sp_asm.specs.Refusals.{IsCauseAt, IsCause, Assembles}
+use Rattle.sp_asm.specs.Assembly.{Row, IsAssembly, places_of}
+use Rattle.sp_asm.specs.Listing.{Lists, IsListing, IsAnswered}
+use Rattle.sp_asm.specs.Refusals.{IsCause}
+use Rattle.sp_asm.specs.Source.{Assembles, HasAssembly, IsRefused}
+use Rattle.sp_asm.specs.code.Kinds.{kind_of}
 use Rattle.sp_asm.proofs.CauseLaws.{Round, one_round, round_or_assembly}
+use Rattle.sp_asm.proofs.SplitLaws.{AllSplits}
+use Rattle.sp_asm.proofs.UniqueLaws.{Keeps, places_are_one, rows_are_one}
 
-abbrev Read : Type 0
-Read = Result (List Statement) Fault
-
-abbrev read : List Statement → Read
-read statements = Ok statements
-
-abbrev unread : ParseRefusal → Line → Read
-unread kind line = Err (record { kind = kind; line = line.0 })
-
-same_statements : (one other : List Statement) → read one ≡ read other → one ≡ other
-same_statements one other e = cc
-
-read_or_unread : (statements : List Statement) (kind : ParseRefusal) (line : Line) → read statements ≡ unread kind line → ⊥
-read_or_unread statements kind line e = cc
-
-abbrev failed : Fault → Read
-failed fault = Err fault
-
-same_fault : (one other : Fault) → failed one ≡ failed other → one ≡ other
-same_fault one other e = cc
-
-line : ℕ → Line
-line number = record { 0 = number }
-
-same_line : (one other : Line) → one.0 ≡ other.0 → one ≡ other
-unfolding line
-same_line one other e = ap line e
-
--- the kind of a refusal to read a line
-abbrev IsKindOf : ParseRefusal → AsmKind → Type 0
-IsKindOf parse.Syntax kind = kind ≡ Syntax
-IsKindOf parse.TooDeep kind = kind ≡ TooDeep
-IsKindOf parse.Memory kind = ⊥
-
-one_kind : (p : ParseRefusal) (a b : AsmKind) → IsKindOf p a → IsKindOf p b → a ≡ b
-one_kind parse.Syntax a b h k = h ∙ sym k
-one_kind parse.TooDeep a b h k = h ∙ sym k
-one_kind parse.Memory a b h k = absurd h
-
-record IsUnread (source : List ℕ) (lines : List SourceLine) (kind : AsmKind) (line : Line) : Type 0 where
-  why : ParseRefusal
-  kind_is : IsKindOf why kind
-  read_as : statements_of source lines ≡ unread why line
-
-record IsRefused (source : List ℕ) (lines : List SourceLine) (kind : AsmKind) (line : Line) : Type 0 where
-  statements : List Statement
-  read_as : statements_of source lines ≡ read statements
-  round : Round statements kind line
-
-abbrev Cause : List ℕ → List SourceLine → AsmKind → Line → Type 0
-Cause source lines kind line = IsUnread source lines kind line ⊎ IsRefused source lines kind line
+-- statements have one assembly at most
+pub one_assembly : (statements : List Statement) (one other : List Row) → IsAssembly statements one → IsAssembly statements other → one ≡ other
+one_assembly statements one other h k =
+    let places = places_are_one (places_of one) (places_of other) h.places k.places (h.whole ∙ sym k.whole) in
+    rows_are_one (places_of one) one other h.each (subst (λ all. AllSplits (Keeps all) other) (sym places) k.each) places
 
 module _ (source : List ℕ) (lines : List SourceLine) where
-  cause_at : (kind : AsmKind) (line : Line) → IsCauseAt source lines kind line → Cause source lines kind line
-  cause_at Syntax line h = inl (record { why = parse.Syntax; kind_is = refl; read_as = h })
-  cause_at TooDeep line h = inl (record { why = parse.TooDeep; kind_is = refl; read_as = h })
-  cause_at Duplicate line h = inr (record { statements = h.0; read_as = h.1; round = h.2 })
-  cause_at Later line h = inr (record { statements = h.0; read_as = h.1; round = h.2 })
-  cause_at Undefined line h = inr (record { statements = h.0; read_as = h.1; round = h.2 })
-  cause_at ZeroDivisor line h = inr (record { statements = h.0; read_as = h.1; round = h.2 })
-  cause_at Range line h = inr (record { statements = h.0; read_as = h.1; round = h.2 })
-  cause_at PastEnd line h = inr (record { statements = h.0; read_as = h.1; round = h.2 })
-  cause_at Overlap line h = inr (record { statements = h.0; read_as = h.1; round = h.2 })
+  -- a cause is a line that isn't read, or one of the rounds
+  record IsUnreadLine (line : ℕ) (kind : AsmKind) : Type 0 where
+    why : StatementKind
+    kind_is : kind ≡ kind_of why
+    unread : IsUnread source lines line why
 
-  cause_of : (r : AsmRefusal) → IsCause source lines r → (kind : AsmKind) × (line : Line) × (r ≡ kind_at kind line) × Cause source lines kind line
-  cause_of (refusal.Syntax line) h = (Syntax, line, refl, cause_at Syntax line h)
-  cause_of (refusal.TooDeep line) h = (TooDeep, line, refl, cause_at TooDeep line h)
-  cause_of (refusal.Duplicate line) h = (Duplicate, line, refl, cause_at Duplicate line h)
-  cause_of (refusal.Later line) h = (Later, line, refl, cause_at Later line h)
-  cause_of (refusal.Undefined line) h = (Undefined, line, refl, cause_at Undefined line h)
-  cause_of (refusal.ZeroDivisor line) h = (ZeroDivisor, line, refl, cause_at ZeroDivisor line h)
-  cause_of (refusal.Range line) h = (Range, line, refl, cause_at Range line h)
-  cause_of (refusal.PastEnd line) h = (PastEnd, line, refl, cause_at PastEnd line h)
-  cause_of (refusal.Overlap line) h = (Overlap, line, refl, cause_at Overlap line h)
-  cause_of refusal.Memory h = absurd h
+  record IsRound (line : ℕ) (kind : AsmKind) : Type 0 where
+    statements : List Statement
+    read : AreStatementsOf source lines statements
+    round : Round statements line kind
 
-  both_unread : (a b : AsmKind) (one other : Line) → IsUnread source lines a one → IsUnread source lines b other → (a ≡ b) × (one ≡ other)
-  both_unread a b one other h k =
-      let fault = same_fault (record { kind = h.why; line = one.0 }) (record { kind = k.why; line = other.0 }) (sym h.read_as ∙ k.read_as) in
-      let why = ap (λ (f : Fault). f.kind) fault in
-      (one_kind k.why a b (subst (λ p. IsKindOf p a) why h.kind_is) k.kind_is, same_line one other (ap (λ (f : Fault). f.line) fault))
+  abbrev Cause : ℕ → AsmKind → Type 0
+  Cause line kind = IsUnreadLine line kind ⊎ IsRound line kind
 
-  both_refused : (a b : AsmKind) (one other : Line) → IsRefused source lines a one → IsRefused source lines b other → (a ≡ b) × (one ≡ other)
-  both_refused a b one other h k =
-      let same = same_statements h.statements k.statements (sym h.read_as ∙ k.read_as) in
-      one_round k.statements a b one other (subst (λ statements. Round statements a one) same h.round) k.round
+  cause_of : (line : ℕ) (kind : AsmKind) → IsCause source lines line kind → Cause line kind
+  cause_of line Syntax h = inl (record { why = unread.Syntax; kind_is = refl; unread = h })
+  cause_of line TooDeep h = inl (record { why = unread.TooDeep; kind_is = refl; unread = h })
+  cause_of line Duplicate h = inr (record { statements = h.0; read = h.1; round = h.2 })
+  cause_of line Later h = inr (record { statements = h.0; read = h.1; round = h.2 })
+  cause_of line Undefined h = inr (record { statements = h.0; read = h.1; round = h.2 })
+  cause_of line ZeroDivisor h = inr (record { statements = h.0; read = h.1; round = h.2 })
+  cause_of line Range h = inr (record { statements = h.0; read = h.1; round = h.2 })
+  cause_of line PastEnd h = inr (record { statements = h.0; read = h.1; round = h.2 })
+  cause_of line Overlap h = inr (record { statements = h.0; read = h.1; round = h.2 })
 
-  unread_or_refused : (a b : AsmKind) (one other : Line) → IsUnread source lines a one → IsRefused source lines b other → ⊥
-  unread_or_refused a b one other h k = read_or_unread k.statements h.why one (sym k.read_as ∙ h.read_as)
-
-  one_cause_at : (a b : AsmKind) (one other : Line) → Cause source lines a one → Cause source lines b other → (a ≡ b) × (one ≡ other)
-  one_cause_at a b one other (inl h) (inl k) = both_unread a b one other h k
-  one_cause_at a b one other (inl h) (inr k) = absurd (unread_or_refused a b one other h k)
-  one_cause_at a b one other (inr h) (inl k) = absurd (unread_or_refused b a other one k h)
-  one_cause_at a b one other (inr h) (inr k) = both_refused a b one other h k
+  one_by : (line there : ℕ) (kind other : AsmKind) → Cause line kind → Cause there other → (line ≡ there) × (kind ≡ other)
+  one_by line there kind other (inl h) (inl k) =
+      let same = one_unread source lines line there h.why k.why h.unread k.unread in
+      (same.0, h.kind_is ∙ ap kind_of same.1 ∙ sym k.kind_is)
+  one_by line there kind other (inl h) (inr k) = absurd (read_or_unread source lines k.statements line h.why k.read h.unread)
+  one_by line there kind other (inr h) (inl k) = absurd (read_or_unread source lines h.statements there k.why h.read k.unread)
+  one_by line there kind other (inr h) (inr k) =
+      let same = one_source source lines h.statements k.statements h.read k.read in
+      one_round k.statements line there kind other (subst (λ ss. Round ss line kind) same h.round) k.round
 
   -- a source is refused for one cause at most
-  pub causes_are_one : (one other : AsmRefusal) → IsCause source lines one → IsCause source lines other → one ≡ other
-  causes_are_one one other h k =
-      let a = cause_of one h in
-      let b = cause_of other k in
-      let same = one_cause_at a.0 b.0 a.1 b.1 a.3 b.3 in
-      a.2 ∙ ap (λ kind. kind_at kind a.1) same.0 ∙ ap (kind_at b.0) same.1 ∙ sym b.2
+  pub causes_are_one : (line there : ℕ) (kind other : AsmKind) → IsCause source lines line kind → IsCause source lines there other → (line ≡ there) × (kind ≡ other)
+  causes_are_one line there kind other h k = one_by line there kind other (cause_of line kind h) (cause_of there other k)
 
-  cause_or_assembly : (statements : List Statement) (rows : List Row) (kind : AsmKind) (at : Line) → statements_of source lines ≡ read statements → IsAssembly statements rows → Cause source lines kind at → ⊥
-  cause_or_assembly statements rows kind at read_as h (inl k) = read_or_unread statements k.why at (sym read_as ∙ k.read_as)
-  cause_or_assembly statements rows kind at read_as h (inr k) =
-      let same = same_statements k.statements statements (sym k.read_as ∙ read_as) in
-      round_or_assembly statements kind at rows h (subst (λ found. Round found kind at) same k.round)
+  none_by : (rows : List Row) (line : ℕ) (kind : AsmKind) → Assembles source lines rows → Cause line kind → ⊥
+  none_by rows line kind h (inl k) = read_or_unread source lines h.0 line k.why h.1 k.unread
+  none_by rows line kind h (inr k) =
+      let same = one_source source lines k.statements h.0 k.read h.1 in
+      round_or_assembly h.0 line kind rows h.2 (subst (λ ss. Round ss line kind) same k.round)
 
   -- and for none where it has an assembly
-  pub assembled_has_no_cause : (rows : List Row) (r : AsmRefusal) → Assembles source lines rows → IsCause source lines r → ⊥
-  assembled_has_no_cause rows r h k =
-      let a = cause_of r k in
-      cause_or_assembly h.0 rows a.0 a.1 h.1 h.2 a.3
+  pub assembled_has_no_cause : (rows : List Row) (line : ℕ) (kind : AsmKind) → Assembles source lines rows → IsCause source lines line kind → ⊥
+  assembled_has_no_cause rows line kind h k = none_by rows line kind h (cause_of line kind k)
+
+  -- it has one assembly at most
+  pub assemblies_are_one : (one other : List Row) → Assembles source lines one → Assembles source lines other → one ≡ other
+  assemblies_are_one one other h k =
+      let same = one_source source lines h.0 k.0 h.1 k.1 in
+      one_assembly k.0 one other (subst (λ ss. IsAssembly ss one) same h.2) k.2
+
+  -- so what is answered is complete
+
+  whole_by : (result : Result Listing (Refused AsmKind)) → Answers (IsListing source lines) (IsCause source lines) result → (rows : List Row) → Assembles source lines rows
+      → ((l : Listing) × (result ≡ Ok l) × Lists l rows) ⊎ (result ≡ Err refused.Memory)
+  whole_by (Ok l) h rows k = inl (l, refl, subst (Lists l) (assemblies_are_one h.0 rows h.1 k) h.2)
+  whole_by (Err (refused.At line kind)) h rows k = absurd (assembled_has_no_cause rows line.0 kind k h)
+  whole_by (Err refused.Memory) h rows k = inr refl
+
+  exact_by : (result : Result Listing (Refused AsmKind)) → Answers (IsListing source lines) (IsCause source lines) result → (line : ℕ) (kind : AsmKind) → IsCause source lines line kind
+      → IsUnlessMemory result (Err (refused.At (record { 0 = line }) kind))
+  exact_by (Ok l) h line kind k = absurd (assembled_has_no_cause h.0 line kind h.1 k)
+  exact_by (Err (refused.At at other)) h line kind k =
+      let same = causes_are_one at.0 line other kind h k in
+      inl (λ i. Err (refused.At (record { 0 = same.0 i }) (same.1 i)))
+  exact_by (Err refused.Memory) h line kind k = inr refl
+
+  pub answered : (result : Result Listing (Refused AsmKind)) → Answers (IsListing source lines) (IsCause source lines) result → IsAnswered source lines result
+  answered result h = record { whole = whole_by result h; exact = exact_by result h }
+
+-- ---- Sources
+
+one_reading : (source : List ℕ) (one other : List SourceLine) → AreLines source one → AreLines source other → one ≡ other
+one_reading source one other h k = cc
+
+pub one_of_source : (source : List ℕ) (one other : List Row) → HasAssembly source one → HasAssembly source other → one ≡ other
+one_of_source source one other h k =
+    let same = one_reading source h.lines k.lines h.read k.read in
+    assemblies_are_one source k.lines one other (subst (λ lines. Assembles source lines one) same h.assembles) k.assembles
+
+pub one_refusal : (source : List ℕ) (at there : ℕ) (kind other : AsmKind) → IsRefused source at kind → IsRefused source there other → (at ≡ there) × (kind ≡ other)
+one_refusal source at there kind other h k =
+    let same = one_reading source h.lines k.lines h.read k.read in
+    causes_are_one source k.lines at there kind other (subst (λ lines. IsCause source lines at kind) same h.cause) k.cause
+
+pub assembled_or_refused : (source : List ℕ) (rows : List Row) (at : ℕ) (kind : AsmKind) → HasAssembly source rows → IsRefused source at kind → ⊥
+assembled_or_refused source rows at kind h k =
+    let same = one_reading source h.lines k.lines h.read k.read in
+    assembled_has_no_cause source k.lines rows at kind (subst (λ lines. Assembles source lines rows) same h.assembles) k.cause

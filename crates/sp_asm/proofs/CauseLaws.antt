@@ -4,14 +4,13 @@ use Rattle.std.specs.Prelude.{nat_eq}
 use Rattle.std.specs.List.{IsDistinct, AllByRecursion}
 use Rattle.std.proofs.lemmas.List.{map-append}
 use Rattle.std.proofs.lemmas.Grind.{flat_map-append}
-use Rattle.sp_base.specs.declared.line.Line.{Line}
 use Rattle.sp_base.specs.Cells.{Data, cells_at, cells_of}
 use Rattle.sp_stmt.specs.declared.operand.Operand.{Operand}
 use Rattle.sp_stmt.specs.declared.statement.Statement.{Statement}
 use Rattle.sp_asm.specs.declared.refusal.AsmKind.{AsmKind}
 use Rattle.sp_asm.specs.declared.refusal.AsmKind.TheVariants.{Syntax, TooDeep, Duplicate, Later, Undefined, ZeroDivisor, Range, PastEnd, Overlap}
 use Rattle.sp_asm.specs.Values.{AreValues, AreInRange}
-use Rattle.sp_asm.specs.Assembly.{IsAssembly, Place, uses_names_above, HasPlaceValue, HasRoom, IsPlaced, address_after, names_above, names_at, is_duplicate, ArePlaced, Row, HasRowValues, data_of, places_of, addresses_of}
+use Rattle.sp_asm.specs.Assembly.{IsAssembly, Place, uses_names_above, HasPlaceValue, HasRoom, IsPlaced, address_after, names_above, names_at, is_duplicate, ArePlaced, Row, HasRowValues, row_data, places_of, addresses_of}
 use Rattle.sp_asm.specs.Refusals.{UsesLater, UsesUndefined, DividesByZero, BreaksPlace, BreaksRow, FirstRound, SecondRound}
 use Rattle.sp_asm.proofs.SplitLaws.{AllSplits, fronts, further, kept_further}
 use Rattle.sp_asm.proofs.ValueLaws.{values_are_one, none_missing, none_without}
@@ -123,18 +122,18 @@ placed_or_broken statements above p s kind h e broken =
 
 -- ---- The first round
 
-first_or_placed : (statements : List Statement) (kind : AsmKind) (line : Line) (all : List Place) → FirstRound statements kind line → ArePlaced all → map statement_at all ≡ statements → ⊥
-first_or_placed statements kind line all h placed whole =
+first_or_placed : (statements : List Statement) (line : ℕ) (kind : AsmKind) (all : List Place) → FirstRound statements line kind → ArePlaced all → map statement_at all ≡ statements → ⊥
+first_or_placed statements line kind all h placed whole =
     let found = kept_further statement_at IsPlaced one_place h.above all h.broken h.below h.placed placed (whole ∙ h.whole) in
     placed_or_broken statements h.above found.0 h.broken kind found.1 found.2 h.breaks
 
-one_first : (statements : List Statement) (a b : AsmKind) (line other : Line) → FirstRound statements a line → FirstRound statements b other → (a ≡ b) × (line ≡ other)
-one_first statements a b line other h k =
+one_first : (statements : List Statement) (line other : ℕ) (a b : AsmKind) → FirstRound statements line a → FirstRound statements other b → (line ≡ other) × (a ≡ b)
+one_first statements line other a b h k =
     elim (fronts statement_at IsPlaced one_place h.above k.above h.broken k.broken h.below k.below h.placed k.placed (sym h.whole ∙ k.whole)) [
       | inl same ↦
           let at = subst (λ (s : Statement). BreaksPlace statements h.above s a) same.1 h.breaks in
           let there = subst (λ above. BreaksPlace statements above k.broken a) same.0 at in
-          (one_place_break statements k.above k.broken a b there k.breaks, sym h.at ∙ ap (λ (s : Statement). s.line) same.1 ∙ k.at)
+          (sym h.at ∙ ap (λ (s : Statement). s.line.0) same.1 ∙ k.at, one_place_break statements k.above k.broken a b there k.breaks)
       | inr (inl longer) ↦ absurd (placed_or_broken statements h.above longer.0 h.broken a (k.placed h.above longer.1 longer.0 longer.2) longer.3 h.breaks)
       | inr (inr shorter) ↦ absurd (placed_or_broken statements k.above shorter.0 k.broken b (h.placed k.above shorter.1 shorter.0 shorter.2) shorter.3 k.breaks)
     ]
@@ -152,9 +151,9 @@ distinct_front (x ∷ xs) ys h = (all_front (λ y. nat_eq x y ≡ false) xs ys h
 
 addresses_of-append : (xs ys : List Row) → addresses_of (xs ++ ys) ≡ addresses_of xs ++ addresses_of ys
 addresses_of-append xs ys =
-    ap (λ cells. map (λ (c : ℕ × ℕ). c.0) (cells_of cells)) (map-append data_of xs ys)
-    ∙ ap (map (λ (c : ℕ × ℕ). c.0)) (flat_map-append (λ (d : Data). cells_at d.address d.bytes) (map data_of xs) (map data_of ys))
-    ∙ map-append (λ (c : ℕ × ℕ). c.0) (cells_of (map data_of xs)) (cells_of (map data_of ys))
+    ap (λ cells. map (λ (c : ℕ × ℕ). c.0) (cells_of cells)) (map-append row_data xs ys)
+    ∙ ap (map (λ (c : ℕ × ℕ). c.0)) (flat_map-append (λ (d : Data). cells_at d.address d.bytes) (map row_data xs) (map row_data ys))
+    ∙ map-append (λ (c : ℕ × ℕ). c.0) (cells_of (map row_data xs)) (cells_of (map row_data ys))
 
 -- where the bytes of rows are apart, so are those of a front
 apart_above : (rows above rest : List Row) (r : Row) → rows ≡ above ++ r ∷ rest → IsDistinct nat_eq (addresses_of rows) → IsDistinct nat_eq (addresses_of (above ++ r ∷ []))
@@ -250,15 +249,15 @@ module _ (statements : List Statement) (all : List Place) (above : List Row) (p 
 
 -- ---- The second round
 
-second_or_assembly : (statements : List Statement) (kind : AsmKind) (line : Line) (rows : List Row) → SecondRound statements kind line → IsAssembly statements rows → ⊥
-second_or_assembly statements kind line rows h k =
+second_or_assembly : (statements : List Statement) (line : ℕ) (kind : AsmKind) (rows : List Row) → SecondRound statements line kind → IsAssembly statements rows → ⊥
+second_or_assembly statements line kind rows h k =
     let same = places_are_one (places_of rows) h.all k.places h.placed (k.whole ∙ sym h.whole) in
     let each = subst (λ all. AllSplits (Keeps all) rows) same k.each in
     let found = further place_of (Keeps h.all) (one_row h.all) h.above rows h.broken h.below h.rows each (same ∙ h.parts) in
     row_or_broken statements h.all h.above h.broken rows found.1 found.0 kind found.2 found.3 (each h.above found.1 found.0 found.2) k.apart h.breaks
 
-one_second : (statements : List Statement) (a b : AsmKind) (line other : Line) → SecondRound statements a line → SecondRound statements b other → (a ≡ b) × (line ≡ other)
-one_second statements a b line other h k =
+one_second : (statements : List Statement) (line other : ℕ) (a b : AsmKind) → SecondRound statements line a → SecondRound statements other b → (line ≡ other) × (a ≡ b)
+one_second statements line other a b h k =
     let all = places_are_one k.all h.all k.placed h.placed (k.whole ∙ sym h.whole) in
     let rows = subst (λ places. AllSplits (Keeps places) k.above) all k.rows in
     let breaks = subst (λ places. BreaksRow statements places k.above k.broken b) all k.breaks in
@@ -266,7 +265,7 @@ one_second statements a b line other h k =
       | inl same ↦
           let at = subst (λ (p : Place). BreaksRow statements h.all h.above p a) same.1 h.breaks in
           let there = subst (λ above. BreaksRow statements h.all above k.broken a) same.0 at in
-          (one_row_break statements h.all k.above k.broken a b there breaks, sym h.at ∙ ap (λ (p : Place). p.statement.line) same.1 ∙ k.at)
+          (sym h.at ∙ ap (λ (p : Place). p.statement.line.0) same.1 ∙ k.at, one_row_break statements h.all k.above k.broken a b there breaks)
       | inr (inl longer) ↦
           absurd (row_or_broken statements h.all h.above h.broken k.above longer.1 longer.0 a longer.2 longer.3 (rows h.above longer.1 longer.0 longer.2) k.apart h.breaks)
       | inr (inr shorter) ↦
@@ -275,20 +274,20 @@ one_second statements a b line other h k =
 
 -- ---- Both rounds
 
-abbrev pub Round : List Statement → AsmKind → Line → Type 0
-Round statements kind line = FirstRound statements kind line ⊎ SecondRound statements kind line
+abbrev pub Round : List Statement → ℕ → AsmKind → Type 0
+Round statements line kind = FirstRound statements line kind ⊎ SecondRound statements line kind
 
-first_or_second : (statements : List Statement) (a b : AsmKind) (line other : Line) → FirstRound statements a line → SecondRound statements b other → ⊥
-first_or_second statements a b line other h k = first_or_placed statements a line k.all h k.placed k.whole
+first_or_second : (statements : List Statement) (line other : ℕ) (a b : AsmKind) → FirstRound statements line a → SecondRound statements other b → ⊥
+first_or_second statements line other a b h k = first_or_placed statements line a k.all h k.placed k.whole
 
 -- statements are refused for one kind at one line
-pub one_round : (statements : List Statement) (a b : AsmKind) (line other : Line) → Round statements a line → Round statements b other → (a ≡ b) × (line ≡ other)
-one_round statements a b line other (inl h) (inl k) = one_first statements a b line other h k
-one_round statements a b line other (inl h) (inr k) = absurd (first_or_second statements a b line other h k)
-one_round statements a b line other (inr h) (inl k) = absurd (first_or_second statements b a other line k h)
-one_round statements a b line other (inr h) (inr k) = one_second statements a b line other h k
+pub one_round : (statements : List Statement) (line other : ℕ) (a b : AsmKind) → Round statements line a → Round statements other b → (line ≡ other) × (a ≡ b)
+one_round statements line other a b (inl h) (inl k) = one_first statements line other a b h k
+one_round statements line other a b (inl h) (inr k) = absurd (first_or_second statements line other a b h k)
+one_round statements line other a b (inr h) (inl k) = absurd (first_or_second statements other line b a k h)
+one_round statements line other a b (inr h) (inr k) = one_second statements line other a b h k
 
 -- and not where they have an assembly
-pub round_or_assembly : (statements : List Statement) (kind : AsmKind) (line : Line) (rows : List Row) → IsAssembly statements rows → Round statements kind line → ⊥
-round_or_assembly statements kind line rows h (inl k) = first_or_placed statements kind line (places_of rows) k h.places h.whole
-round_or_assembly statements kind line rows h (inr k) = second_or_assembly statements kind line rows k h
+pub round_or_assembly : (statements : List Statement) (line : ℕ) (kind : AsmKind) (rows : List Row) → IsAssembly statements rows → Round statements line kind → ⊥
+round_or_assembly statements line kind rows h (inl k) = first_or_placed statements line kind (places_of rows) k h.places h.whole
+round_or_assembly statements line kind rows h (inr k) = second_or_assembly statements line kind rows k h

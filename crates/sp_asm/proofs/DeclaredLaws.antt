@@ -7,7 +7,7 @@ use Rattle.std.proofs.lemmas.Cmp.{nat_list_eq_equiv}
 use Rattle.std.proofs.lemmas.List.Folds.{list_any_more}
 use Rattle.sp_stmt.specs.declared.statement.Statement.{Statement}
 use Rattle.sp_asm.specs.Names.{name_of, is_named, defines}
-use Rattle.sp_asm.specs.Passes.{Declares}
+use Rattle.sp_asm.specs.code.Passes.{Declares}
 
 or_false : (a : Bool) → (a || false) ≡ a
 or_false true = refl

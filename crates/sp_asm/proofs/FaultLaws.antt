@@ -10,8 +10,8 @@ use Rattle.sp_stmt.specs.declared.operand.Operand.{Operand}
 use Rattle.sp_stmt.specs.declared.statement.Statement.{Statement}
 use Rattle.sp_asm.specs.declared.refusal.AsmKind.{AsmKind}
 use Rattle.sp_asm.specs.declared.refusal.AsmKind.TheVariants.{Syntax, TooDeep, Duplicate, Later, Undefined, ZeroDivisor, Range, PastEnd, Overlap}
-use Rattle.sp_asm.specs.Values.{words_of, OneIsWithoutValue}
-use Rattle.sp_asm.specs.Passes.{is_later, is_undefined, has_later, has_undefined, fault_of, Declares}
+use Rattle.sp_asm.specs.Values.{operand_words, OneIsWithoutValue}
+use Rattle.sp_asm.specs.code.Passes.{is_later, is_undefined, has_later, has_undefined, fault_of, Declares}
 use Rattle.sp_asm.specs.Refusals.{IsMissing, UsesLater, UsesUndefined, DividesByZero}
 
 -- what a fault of operands says
@@ -69,18 +69,18 @@ undefined_name names words.Close h = absurd cc
 
 module _ (names : List ℕ → Option ℕ) (operands : List Operand) where
   -- a test that finds a name without a value
-  missing : (o : Operand) (w : Word) (name : List ℕ) → Contains operands o → Contains (words_of o) w → w ≡ words.Name name → names name ≡ None → IsMissing names operands name
-  missing o w name among used is none = record { operand = o; among = among; used = subst (Contains (words_of o)) is used; missing = none }
+  missing : (o : Operand) (w : Word) (name : List ℕ) → Contains operands o → Contains (operand_words o) w → w ≡ words.Name name → names name ≡ None → IsMissing names operands name
+  missing o w name among used is none = record { operand = o; among = among; used = subst (Contains (operand_words o)) is used; missing = none }
 
   -- a word that passes a test is found among the operands
-  finds_word : (test : Word → Bool) (o : Operand) (w : Word) → Contains operands o → Contains (words_of o) w → test w ≡ true → list_any (λ x. list_any test (words_of x)) operands ≡ true
-  finds_word test o w among used h = finds (λ x. list_any test (words_of x)) operands o among (finds test (words_of o) w used h)
+  finds_word : (test : Word → Bool) (o : Operand) (w : Word) → Contains operands o → Contains (operand_words o) w → test w ≡ true → list_any (λ x. list_any test (operand_words x)) operands ≡ true
+  finds_word test o w among used h = finds (λ x. list_any test (operand_words x)) operands o among (finds test (operand_words o) w used h)
 
   module _ (declared : List ℕ → Option ℕ) (all : List Statement) (declares : Declares declared all) where
     later_found : has_later names declared operands ≡ true → UsesLater all names operands
     later_found h =
-        let at = found_at (λ x. list_any (is_later names declared) (words_of x)) operands h in
-        let word = found_at (is_later names declared) (words_of at.0) at.2 in
+        let at = found_at (λ x. list_any (is_later names declared) (operand_words x)) operands h in
+        let word = found_at (is_later names declared) (operand_words at.0) at.2 in
         let p = later_name names declared word.0 word.2 in
         (p.0, missing at.0 word.0 p.0 at.1 word.1 p.1 p.2, sym (declares p.0) ∙ p.3)
 
@@ -92,8 +92,8 @@ module _ (names : List ℕ → Option ℕ) (operands : List Operand) where
 
   undefined_found : has_undefined names operands ≡ true → (name : List ℕ) × IsMissing names operands name
   undefined_found h =
-      let at = found_at (λ x. list_any (is_undefined names) (words_of x)) operands h in
-      let word = found_at (is_undefined names) (words_of at.0) at.2 in
+      let at = found_at (λ x. list_any (is_undefined names) (operand_words x)) operands h in
+      let word = found_at (is_undefined names) (operand_words at.0) at.2 in
       let p = undefined_name names word.0 word.2 in
       (p.0, missing at.0 word.0 p.0 at.1 word.1 p.1 p.2)
 

@@ -1,23 +1,24 @@
 -- One place more.
 use Rattle.std.proofs.Common.{◌≡◌, ℕ, ◌+◌, ◌<◌, ◌%◌, Bool, true, false, not, List, [], ◌∷◌, ◌++◌, map, refl, sym, ap, ◌∙◌, fold, inl, inr, arith, rules, length, get_or, take}
-use Rattle.std.specs.Prelude.{Option, Some, None, IsSome}
+use Rattle.std.specs.Prelude.{Option, Some, None, IsSome, Err}
 use Rattle.std.proofs.lemmas.List.Sums.{fold-append}
 use Rattle.std.proofs.lemmas.List.Elements.{filter-append}
 use Rattle.std.proofs.lemmas.List.Concat.{flat_map-append}
 use Rattle.std.proofs.lemmas.List.{append-nil, map-append, take_more}
+use Rattle.sp_base.specs.declared.line.Line.{Line}
+use Rattle.sp_base.specs.declared.refused.Refused.{Refused}
+use Rattle.sp_base.specs.declared.refused.Refused.TheVariants as refused
+use Rattle.sp_base.specs.Refused.{Answers}
 use Rattle.sp_stmt.specs.declared.statement.Code.{Code}
 use Rattle.sp_stmt.specs.declared.statement.Code.TheVariants as code
 use Rattle.sp_stmt.specs.declared.statement.Statement.{Statement}
 use Rattle.sp_asm.specs.declared.refusal.AsmKind.{AsmKind}
 use Rattle.sp_asm.specs.declared.refusal.AsmKind.TheVariants as kind
-use Rattle.sp_asm.specs.declared.refusal.AsmRefusal.{AsmRefusal}
-use Rattle.sp_asm.specs.declared.refusal.Stop.{Stop}
-use Rattle.sp_asm.specs.declared.refusal.Stop.TheVariants as stop
-use Rattle.sp_asm.specs.Answers.{refusal_at}
+use Rattle.sp_asm.specs.declared.places.Places.{Places}
 use Rattle.sp_asm.specs.Names.{Definition, Entries, with_definition, symbols, fixed, name_by}
 use Rattle.sp_asm.specs.Assembly.{Place, definition_of, definition_by, defined_value, definitions, address_after, next_address, uses_names_above, names_above, is_duplicate, ArePlaced}
-use Rattle.sp_asm.specs.Refusals.{BreaksPlace}
-use Rattle.sp_asm.specs.Passes.{StopsPlace, RefusesFirst}
+use Rattle.sp_asm.specs.Refusals.{BreaksPlace, FirstRound}
+use Rattle.sp_asm.specs.code.Passes.{ArePlaces, RefusesLine}
 use Rattle.sp_asm.proofs.FaultLaws.{Faults}
 
 -- the definitions of places and one more
@@ -68,11 +69,18 @@ statements_more ss i s places p lt is so_far at =
     ∙ sym (take_more ss i s lt)
 
 -- a statement that has no place refuses the source
-pub refuses_first : (ss below : List Statement) (places : List Place) (s : Statement) (why : Stop) (r : AsmRefusal) → r ≡ refusal_at why s.line
-    → ss ≡ map (λ (q : Place). q.statement) places ++ s ∷ below → ArePlaced places → StopsPlace ss places s why → RefusesFirst ss r
-refuses_first ss below places s stop.Memory r is whole placed stops = inl is
-refuses_first ss below places s (stop.Breaks kind) r is whole placed stops =
-    inr (kind, s.line, is, record { above = places; broken = s; below = below; whole = whole; placed = placed; at = refl; breaks = stops })
+pub refuses_first : (ss below : List Statement) (places : List Place) (s : Statement) (r : Refused AsmKind) → ss ≡ map (λ (q : Place). q.statement) places ++ s ∷ below → ArePlaced places
+    → RefusesLine s.line (BreaksPlace ss places s) r → Answers {A = Places} (ArePlaces ss) (FirstRound ss) (Err r)
+refuses_first ss below places s refused.Memory whole placed stops = tt
+refuses_first ss below places s (refused.At at kind) whole placed stops = record {
+  above = places;
+  broken = s;
+  below = below;
+  whole = whole;
+  placed = placed;
+  at = ap (λ (l : Line). l.0) (sym stops.0);
+  breaks = stops.1;
+}
 
 -- a statement that uses names above, of which one operand has no value
 pub breaks_by_fault : (all : List Statement) (places : List Place) (s : Statement) (why : AsmKind) → is_duplicate places s ≡ false → uses_names_above s.code ≡ true

@@ -1,61 +1,67 @@
 -- What the rounds answer, as the answer to a source.
-use Rattle.std.proofs.Common.{◌≡◌, ◌⊎◌, ℕ, List, refl, sym, subst, inl, inr, Result, Ok, Err, IfOk, IfErr, IsOk}
+use Rattle.std.proofs.Common.{◌≡◌, ℕ, List, refl, sym, ap, subst, inl, inr, Result, Ok, Err}
 use Rattle.sp_base.specs.declared.line.Line.{Line}
+use Rattle.sp_base.specs.declared.refused.Refused.{Refused}
+use Rattle.sp_base.specs.declared.refused.Refused.TheVariants as refused
+use Rattle.sp_base.specs.Refused.{Answers, HasKindBy}
 use Rattle.sp_lex.specs.declared.token.SourceLine.{SourceLine}
+use Rattle.sp_stmt.specs.declared.refusal.StatementKind.{StatementKind}
+use Rattle.sp_stmt.specs.declared.refusal.StatementKind.TheVariants as unread
 use Rattle.sp_stmt.specs.declared.statement.Statement.{Statement}
-use Rattle.sp_stmt.specs.Reading.{statements_of}
+use Rattle.sp_stmt.specs.Source.{AreStatementsOf, IsUnread}
 use Rattle.sp_asm.specs.declared.listing.Listing.{Listing}
+use Rattle.sp_asm.specs.declared.places.Places.{Places}
 use Rattle.sp_asm.specs.declared.refusal.AsmKind.{AsmKind}
 use Rattle.sp_asm.specs.declared.refusal.AsmKind.TheVariants as kind
-use Rattle.sp_asm.specs.declared.refusal.AsmRefusal.{AsmRefusal}
-use Rattle.sp_asm.specs.declared.refusal.AsmRefusal.TheVariants as refusal
-use Rattle.sp_asm.specs.Answers.{kind_at}
-use Rattle.sp_asm.specs.Assembly.{Row}
 use Rattle.sp_asm.specs.Listing.{IsListing}
-use Rattle.sp_asm.specs.Refusals.{IsCause, Assembles, SecondRound}
-use Rattle.sp_asm.specs.Passes.{RefusesSecond}
-use Rattle.sp_asm.proofs.AnswerLaws.{causes_are_one, assembled_has_no_cause}
-
-second_cause : (source : List ℕ) (lines : List SourceLine) (statements : List Statement) (k : AsmKind) (line : Line) → statements_of source lines ≡ Ok statements
-    → SecondRound statements k line → IsCause source lines (kind_at k line)
-second_cause source lines statements kind.Syntax line is round = absurd round.breaks
-second_cause source lines statements kind.TooDeep line is round = absurd round.breaks
-second_cause source lines statements kind.Duplicate line is round = absurd round.breaks
-second_cause source lines statements kind.PastEnd line is round = absurd round.breaks
-second_cause source lines statements kind.Later line is round = (statements, is, inr round)
-second_cause source lines statements kind.Undefined line is round = (statements, is, inr round)
-second_cause source lines statements kind.ZeroDivisor line is round = (statements, is, inr round)
-second_cause source lines statements kind.Range line is round = (statements, is, inr round)
-second_cause source lines statements kind.Overlap line is round = (statements, is, inr round)
-
--- a refusal of the second pass is one of the source
-pub second_is_cause : (source : List ℕ) (lines : List SourceLine) (statements : List Statement) (r : AsmRefusal) → statements_of source lines ≡ Ok statements
-    → RefusesSecond statements r → (r ≡ refusal.Memory) ⊎ IsCause source lines r
-second_is_cause source lines statements r is h = elim h [
-  | inl memory ↦ inl memory
-  | inr found ↦ inr (subst (IsCause source lines) (sym found.2) (second_cause source lines statements found.0 found.1 is found.3))
-]
-
-pub second_answers : (source : List ℕ) (lines : List SourceLine) (statements : List Statement) (result : Result Listing AsmRefusal) → statements_of source lines ≡ Ok statements
-    → IfErr result (RefusesSecond statements) → IfErr result (λ r. (r ≡ refusal.Memory) ⊎ IsCause source lines r)
-second_answers source lines statements (Ok listing) is h = tt
-second_answers source lines statements (Err r) is h = second_is_cause source lines statements r is h
+use Rattle.sp_asm.specs.Refusals.{IsCause, FirstRound, SecondRound}
+use Rattle.sp_asm.specs.code.Kinds.{kind_of}
+use Rattle.sp_asm.specs.code.Passes.{ArePlaces, ListsAssembly}
 
 module _ (source : List ℕ) (lines : List SourceLine) where
-  -- so each source that has an assembly is assembled
-  pub whole_by : (result : Result Listing AsmRefusal) → IfOk result (IsListing source lines) → IfErr result (λ r. (r ≡ refusal.Memory) ⊎ IsCause source lines r)
-      → (rows : List Row) → Assembles source lines rows → IsOk result ⊎ (result ≡ Err refusal.Memory)
-  whole_by (Ok listing) ok err rows h = inl refl
-  whole_by (Err r) ok err rows h = elim err [
-    | inl memory ↦ inr (λ i. Err (memory i))
-    | inr cause ↦ absurd (assembled_has_no_cause source lines rows r h cause)
-  ]
+  unread_cause : (line : ℕ) (low : StatementKind) → IsUnread source lines line low → IsCause source lines line (kind_of low)
+  unread_cause line unread.Syntax h = h
+  unread_cause line unread.TooDeep h = h
 
-  -- and each refusal that has its cause is given
-  pub exact_by : (result : Result Listing AsmRefusal) → IfOk result (IsListing source lines) → IfErr result (λ r. (r ≡ refusal.Memory) ⊎ IsCause source lines r)
-      → (r : AsmRefusal) → IsCause source lines r → (result ≡ Err r) ⊎ (result ≡ Err refusal.Memory)
-  exact_by (Ok listing) ok err r h = absurd (assembled_has_no_cause source lines ok.0 r ok.1 h)
-  exact_by (Err other) ok err r h = elim err [
-    | inl memory ↦ inr (λ i. Err (memory i))
-    | inr cause ↦ inl (λ i. Err (causes_are_one source lines other r cause h i))
-  ]
+  -- a refusal to read the statements is one of the source
+  pub unread_is_cause : (low : Refused StatementKind) (high : Refused AsmKind) → HasKindBy (λ a b. b ≡ kind_of a) low high
+      → Answers {A = List Statement} (AreStatementsOf source lines) (IsUnread source lines) (Err low) → Answers {A = Listing} (IsListing source lines) (IsCause source lines) (Err high)
+  unread_is_cause (refused.At line low) (refused.At at high) kinds h =
+      subst (λ n. IsCause source lines n high) (sym (ap (λ (l : Line). l.0) kinds.0)) (subst (IsCause source lines line.0) (sym kinds.1) (unread_cause line.0 low h))
+  unread_is_cause (refused.At line low) refused.Memory kinds h = tt
+  unread_is_cause refused.Memory (refused.At at high) kinds h = absurd kinds
+  unread_is_cause refused.Memory refused.Memory kinds h = tt
+
+  module _ (statements : List Statement) (read : AreStatementsOf source lines statements) where
+    first_cause : (line : ℕ) (k : AsmKind) → FirstRound statements line k → IsCause source lines line k
+    first_cause line kind.Syntax round = absurd round.breaks
+    first_cause line kind.TooDeep round = absurd round.breaks
+    first_cause line kind.Range round = absurd round.breaks
+    first_cause line kind.Overlap round = absurd round.breaks
+    first_cause line kind.Duplicate round = (statements, read, inl round)
+    first_cause line kind.Later round = (statements, read, inl round)
+    first_cause line kind.Undefined round = (statements, read, inl round)
+    first_cause line kind.ZeroDivisor round = (statements, read, inl round)
+    first_cause line kind.PastEnd round = (statements, read, inl round)
+
+    second_cause : (line : ℕ) (k : AsmKind) → SecondRound statements line k → IsCause source lines line k
+    second_cause line kind.Syntax round = absurd round.breaks
+    second_cause line kind.TooDeep round = absurd round.breaks
+    second_cause line kind.Duplicate round = absurd round.breaks
+    second_cause line kind.PastEnd round = absurd round.breaks
+    second_cause line kind.Later round = (statements, read, inr round)
+    second_cause line kind.Undefined round = (statements, read, inr round)
+    second_cause line kind.ZeroDivisor round = (statements, read, inr round)
+    second_cause line kind.Range round = (statements, read, inr round)
+    second_cause line kind.Overlap round = (statements, read, inr round)
+
+    -- a refusal of the first round is one of the source
+    pub first_is_cause : (r : Refused AsmKind) → Answers {A = Places} (ArePlaces statements) (FirstRound statements) (Err r) → Answers {A = Listing} (IsListing source lines) (IsCause source lines) (Err r)
+    first_is_cause (refused.At line k) h = first_cause line.0 k h
+    first_is_cause refused.Memory h = tt
+
+    -- and so is the answer of the second
+    pub second_is_answer : (result : Result Listing (Refused AsmKind)) → Answers (ListsAssembly statements) (SecondRound statements) result → Answers (IsListing source lines) (IsCause source lines) result
+    second_is_answer (Ok l) h = (h.0, (statements, read, h.1), h.2)
+    second_is_answer (Err (refused.At line k)) h = second_cause line.0 k h
+    second_is_answer (Err refused.Memory) h = tt

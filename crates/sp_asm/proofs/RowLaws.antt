@@ -1,12 +1,15 @@
 -- One row more.
 use Rattle.std.proofs.Common.{◌≡◌, ℕ, ◌+◌, ◌<◌, ◌%◌, Bool, true, false, ◌||◌, List, [], ◌∷◌, ◌++◌, map, refl, sym, ap, subst, ◌∙◌, fold, inl, inr, arith, length, append_assoc, get_or, take, drop}
-use Rattle.std.specs.Prelude.{Option, Some, None, nat_eq}
+use Rattle.std.specs.Prelude.{Option, Some, None, Err, nat_eq}
 use Rattle.std.specs.List.{IsDistinct, list_any}
 use Rattle.std.specs.Cmp.Lexicographic.{pointwise}
 use Rattle.std.proofs.lemmas.List.Folds.{list_any-append}
 use Rattle.std.proofs.lemmas.List.Elements.{filter-append}
 use Rattle.std.proofs.lemmas.List.{map-append, length-map}
 use Rattle.sp_base.specs.declared.line.Line.{Line}
+use Rattle.sp_base.specs.declared.refused.Refused.{Refused}
+use Rattle.sp_base.specs.declared.refused.Refused.TheVariants as refused
+use Rattle.sp_base.specs.Refused.{Answers}
 use Rattle.sp_base.specs.Image.{ImageMap}
 use Rattle.sp_base.specs.Cells.{cells_at, cells_of, placed}
 use Rattle.sp_base.proofs.CellLaws.{placed_apart, placed_some, cells_more, map_of, some_map}
@@ -16,19 +19,16 @@ use Rattle.sp_stmt.specs.declared.statement.Code.{Code}
 use Rattle.sp_stmt.specs.declared.statement.Code.TheVariants as code
 use Rattle.sp_stmt.specs.declared.statement.Statement.{Statement}
 use Rattle.sp_asm.specs.declared.listing.Item.{Item}
+use Rattle.sp_asm.specs.declared.listing.Listing.{Listing}
 use Rattle.sp_asm.specs.declared.refusal.AsmKind.{AsmKind}
 use Rattle.sp_asm.specs.declared.refusal.AsmKind.TheVariants as kind
-use Rattle.sp_asm.specs.declared.refusal.AsmRefusal.{AsmRefusal}
-use Rattle.sp_asm.specs.declared.refusal.Stop.{Stop}
-use Rattle.sp_asm.specs.declared.refusal.Stop.TheVariants as stop
 use Rattle.sp_asm.specs.declared.places.Spot.{Spot}
 use Rattle.sp_asm.specs.declared.rows.Rows.{Rows}
-use Rattle.sp_asm.specs.Answers.{refusal_at}
 use Rattle.sp_asm.specs.Names.{Definition, Entries, with_definition, symbols, fixed, by_set, is_set, name_by, name_of, set_definition, is_named, defines, value_in}
-use Rattle.sp_asm.specs.Assembly.{Place, definition_of, definition_by, defined_value, definitions, uses_names_above, Row, places_of, bytes_of, bytes_by, data_of, item_of, addresses_of, names_at, HasRowValues, IsRow, ArePlaced, IsAssembly}
+use Rattle.sp_asm.specs.Assembly.{Place, definition_of, definition_by, defined_value, definitions, uses_names_above, Row, places_of, row_bytes, bytes_by, row_data, item_of, addresses_of, names_at, HasRowValues, IsRow, ArePlaced, IsAssembly}
 use Rattle.sp_asm.specs.Values.{AreValues, AreInRange}
-use Rattle.sp_asm.specs.Passes.{spot_of, IsRows, Declares, StopsRow, RefusesSecond}
-use Rattle.sp_asm.specs.Refusals.{BreaksRow}
+use Rattle.sp_asm.specs.code.Passes.{spot_of, IsRows, Declares, RefusesLine, ListsAssembly}
+use Rattle.sp_asm.specs.Refusals.{BreaksRow, SecondRound}
 use Rattle.sp_asm.proofs.ElementLaws.{element, cut_at, one_further}
 use Rattle.sp_asm.proofs.FaultLaws.{Faults}
 use Rattle.sp_asm.proofs.NameLaws.{found}
@@ -37,10 +37,10 @@ use Rattle.sp_asm.proofs.SplitLaws.{splits_more}
 
 -- the cells of rows
 abbrev pub cells : List Row → Cells
-cells rows = cells_of (map data_of rows)
+cells rows = cells_of (map row_data rows)
 
-pub row_cells : (rows : List Row) (r : Row) → cells (rows ++ r ∷ []) ≡ cells rows ++ cells_at r.place.address (bytes_of r)
-row_cells rows r = ap cells_of (map-append data_of rows (r ∷ [])) ∙ cells_more (map data_of rows) (data_of r)
+pub row_cells : (rows : List Row) (r : Row) → cells (rows ++ r ∷ []) ≡ cells rows ++ cells_at r.place.address (row_bytes r)
+row_cells rows r = ap cells_of (map-append row_data rows (r ∷ [])) ∙ cells_more (map row_data rows) (row_data r)
 
 pub row_places : (rows : List Row) (r : Row) → places_of (rows ++ r ∷ []) ≡ places_of rows ++ r.place ∷ []
 row_places rows r = map-append (λ (q : Row). q.place) rows (r ∷ [])
@@ -98,12 +98,12 @@ late_is_no_set code.End value h = refl
 -- what the code has with one row more
 pub more_rows : (old new : Rows) (all : List Place) (rows : List Row) (r : Row) → IsRows old all rows
     → new.items.items ≡ old.items.items ++ item_of r ∷ []
-    → placed r.place.address (bytes_of r) old.image ≡ Some new.image
+    → placed r.place.address (row_bytes r) old.image ≡ Some new.image
     → new.names.entries ≡ fold with_definition old.names.entries (by_set (definition_of r.place))
     → IsRow all (places_of rows) r → IsRows new all (rows ++ r ∷ [])
 more_rows old new all rows r h items image names row =
-    let put : placed r.place.address (bytes_of r) (map_of (cells rows)) ≡ Some new.image = ap (placed r.place.address (bytes_of r)) (sym h.image) ∙ image in
-    let both = placed_some (cells rows) r.place.address (bytes_of r) new.image h.apart put in
+    let put : placed r.place.address (row_bytes r) (map_of (cells rows)) ≡ Some new.image = ap (placed r.place.address (row_bytes r)) (sym h.image) ∙ image in
+    let both = placed_some (cells rows) r.place.address (row_bytes r) new.image h.apart put in
     record {
       items = map-append item_of rows (r ∷ []) ∙ ap (λ (xs : List Item). xs ++ item_of r ∷ []) h.items ∙ sym items;
       image = both.1 ∙ ap map_of (sym (row_cells rows r));
@@ -113,11 +113,11 @@ more_rows old new all rows r h items image names row =
     }
 
 -- bytes of which one has an address that is taken
-pub overlaps : (old : Rows) (all : List Place) (rows : List Row) (r : Row) → IsRows old all rows → placed r.place.address (bytes_of r) old.image ≡ None
+pub overlaps : (old : Rows) (all : List Place) (rows : List Row) (r : Row) → IsRows old all rows → placed r.place.address (row_bytes r) old.image ≡ None
     → ¬ IsDistinct nat_eq (addresses_of (rows ++ r ∷ []))
 overlaps old all rows r h none apart =
-    let new = placed_apart (cells rows) r.place.address (bytes_of r) (subst (λ (cs : Cells). IsDistinct nat_eq (map (λ c. c.0) cs)) (row_cells rows r) apart) in
-    some_map _ (sym new ∙ ap (placed r.place.address (bytes_of r)) (sym h.image) ∙ none)
+    let new = placed_apart (cells rows) r.place.address (row_bytes r) (subst (λ (cs : Cells). IsDistinct nat_eq (map (λ c. c.0) cs)) (row_cells rows r) apart) in
+    some_map _ (sym new ∙ ap (placed r.place.address (row_bytes r)) (sym h.image) ∙ none)
 
 -- no bytes leave an image
 pub placed_nothing : (bytes : List ℕ) (a : ℕ) (image : ImageMap) → length bytes ≡ 0 → placed a bytes image ≡ Some image
@@ -169,28 +169,23 @@ row_of old all rows p s address values h at is late are within =
     subst (λ (st : Statement). HasRowValues (uses_names_above st.code) (names_at all (places_of rows)) (p.address % 65536) st.operands values) (sym at) placed_at
 
 -- a place that has no row refuses the source
-pub refuses_second : (statements : List Statement) (all below : List Place) (rows : List Row) (p : Place) (line : Line) (why : Stop) (r : AsmRefusal) (old : Rows)
+pub refuses_second : (statements : List Statement) (all below : List Place) (rows : List Row) (p : Place) (line : Line) (r : Refused AsmKind) (old : Rows)
     → map (λ (q : Place). q.statement) all ≡ statements → ArePlaced all → all ≡ places_of rows ++ p ∷ below → IsRows old all rows → p.statement.line ≡ line
-    → r ≡ refusal_at why line → StopsRow statements all rows p why → RefusesSecond statements r
-refuses_second statements all below rows p line stop.Memory r old whole placed_all parts h at is stops = inl is
-refuses_second statements all below rows p line (stop.Breaks kind) r old whole placed_all parts h at is stops = inr (
-  kind,
-  line,
-  is,
-  record {
-    all = all;
-    whole = whole;
-    placed = placed_all;
-    above = rows;
-    broken = p;
-    below = below;
-    parts = parts;
-    rows = h.each;
-    apart = h.apart;
-    at = at;
-    breaks = stops;
-  },
-)
+    → RefusesLine line (BreaksRow statements all rows p) r → Answers {A = Listing} (ListsAssembly statements) (SecondRound statements) (Err r)
+refuses_second statements all below rows p line refused.Memory old whole placed_all parts h at stops = tt
+refuses_second statements all below rows p line (refused.At found kind) old whole placed_all parts h at stops = record {
+  all = all;
+  whole = whole;
+  placed = placed_all;
+  above = rows;
+  broken = p;
+  below = below;
+  parts = parts;
+  rows = h.each;
+  apart = h.apart;
+  at = ap (λ (l : Line). l.0) (at ∙ sym stops.0);
+  breaks = stops.1;
+}
 
 -- the rows of all places are an assembly
 pub assembled : (statements : List Statement) (all : List Place) (rows : List Row) (old : Rows) → map (λ (q : Place). q.statement) all ≡ statements → ArePlaced all

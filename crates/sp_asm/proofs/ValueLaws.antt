@@ -7,7 +7,7 @@ use Rattle.sp_expr.specs.Undefined.{first_undefined}
 use Rattle.sp_expr.proofs.ValueLaws.{value_is}
 use Rattle.sp_stmt.specs.declared.operand.Operand.{Operand}
 use Rattle.sp_stmt.specs.declared.operand.Operand.TheVariants as operand
-use Rattle.sp_asm.specs.Values.{words_of, HasValue, HasNoValue, IsValue, IsWithoutValue, AreValues, OneIsWithoutValue}
+use Rattle.sp_asm.specs.Values.{operand_words, HasValue, HasNoValue, IsValue, IsWithoutValue, AreValues, OneIsWithoutValue}
 use Rattle.sp_asm.specs.Refusals.{IsMissing}
 
 module _ {A : Type 0} where
@@ -97,7 +97,7 @@ module _ (names : List ℕ → Option ℕ) (here : ℕ) where
   operand_or_none (operand.Word ws) value h none = value_or_none ws value h none
   operand_or_none (operand.Restart ws) value h none = value_or_none ws value h none
 
-  operand_or_missing : (o : Operand) (value : ℕ) (name : List ℕ) → IsValue names here o value → Contains (words_of o) (words.Name name) → names name ≡ None → ⊥
+  operand_or_missing : (o : Operand) (value : ℕ) (name : List ℕ) → IsValue names here o value → Contains (operand_words o) (words.Name name) → names name ≡ None → ⊥
   operand_or_missing (operand.Text characters) value name h used missing = contains_none (name_word name) used
   operand_or_missing (operand.Byte ws) value name h used missing = value_or_missing ws value name h used missing
   operand_or_missing (operand.Word ws) value name h used missing = value_or_missing ws value name h used missing

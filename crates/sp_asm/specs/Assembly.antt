@@ -176,11 +176,11 @@ pub record Row : Type 0 where
 abbrev pub places_of : List Row → List Place
 places_of = map (λ r. r.place)
 
-abbrev pub bytes_of : Row → List ℕ
-bytes_of r = bytes_by r.place.statement.code r.place.statement.operands r.values
+abbrev pub row_bytes : Row → List ℕ
+row_bytes r = bytes_by r.place.statement.code r.place.statement.operands r.values
 
-abbrev pub data_of : Row → Data
-data_of r = record { address = r.place.address; bytes = bytes_of r }
+abbrev pub row_data : Row → Data
+row_data r = record { address = r.place.address; bytes = row_bytes r }
 
 abbrev pub item_of : Row → Item
 item_of r = record {
@@ -192,7 +192,7 @@ item_of r = record {
 
 -- the addresses of all bytes
 abbrev pub addresses_of : List Row → List ℕ
-addresses_of rows = map (λ c. c.0) (cells_of (map data_of rows))
+addresses_of rows = map (λ c. c.0) (cells_of (map row_data rows))
 
 -- the values of the operands, by all names, in their ranges
 abbrev pub HasRowValues : Bool → (List ℕ → Option ℕ) → ℕ → List Operand → List ℕ → Type 0
@@ -214,12 +214,8 @@ pub record IsAssembly (statements : List Statement) (rows : List Row) : Type 0 w
 
 -- the image has exactly the bytes of the rows
 abbrev pub image_of : List Row → ImageMap
-image_of rows = maps.from_entries (cells_of (map data_of rows))
+image_of rows = maps.from_entries (cells_of (map row_data rows))
 
 -- the names of a source, in order of definition; a name of SET has its last value
 abbrev pub names_of : List Row → Entries
 names_of rows = symbols (definitions (places_of rows))
-
--- a source has at most one assembly
-abbrev pub AssembliesAreOne : Type 0
-AssembliesAreOne = (statements : List Statement) (one other : List Row) → IsAssembly statements one → IsAssembly statements other → one ≡ other

@@ -1,7 +1,7 @@
-pub mod Answers
+pub mod code
 pub mod Assembly
 pub mod Listing
 pub mod Names
-pub mod Passes
 pub mod Refusals
+pub mod Source
 pub mod Values

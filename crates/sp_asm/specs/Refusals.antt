@@ -1,20 +1,17 @@
 -- What refuses a source.
-use Rattle.std.specs.Prelude.{◌≡◌, ◌⊎◌, ℕ, ◌%◌, true, false, nat_eq, List, [], ◌∷◌, ◌++◌, map, Option, None, Contains, Ok, Err}
+use Rattle.std.specs.Prelude.{◌≡◌, ◌⊎◌, ℕ, ◌%◌, true, false, nat_eq, List, [], ◌∷◌, ◌++◌, map, Option, None, Contains}
 use Rattle.std.specs.List.{IsDistinct}
-use Rattle.sp_base.specs.declared.line.Line.{Line}
 use Rattle.sp_lex.specs.declared.token.SourceLine.{SourceLine}
-use Rattle.sp_expr.specs.declared.refusal.ParseRefusal.TheVariants as parse
 use Rattle.sp_expr.specs.declared.word.Word.TheVariants as words
 use Rattle.sp_stmt.specs.declared.operand.Operand.{Operand}
 use Rattle.sp_stmt.specs.declared.statement.Statement.{Statement}
-use Rattle.sp_stmt.specs.Reading.{statements_of}
+use Rattle.sp_stmt.specs.declared.refusal.StatementKind.TheVariants as unread
+use Rattle.sp_stmt.specs.Source.{AreStatementsOf, IsUnread}
 use Rattle.sp_asm.specs.declared.refusal.AsmKind.{AsmKind}
 use Rattle.sp_asm.specs.declared.refusal.AsmKind.TheVariants.{Syntax, TooDeep, Duplicate, Later, Undefined, ZeroDivisor, Range, PastEnd, Overlap}
-use Rattle.sp_asm.specs.declared.refusal.AsmRefusal.{AsmRefusal}
-use Rattle.sp_asm.specs.declared.refusal.AsmRefusal.TheVariants as refusal
 use Rattle.sp_asm.specs.Names.{defines}
-use Rattle.sp_asm.specs.Values.{words_of, AreValues, OneIsWithoutValue, AreInRange}
-use Rattle.sp_asm.specs.Assembly.{IsAssembly, Place, uses_names_above, HasPlaceValue, HasRoom, address_after, names_above, names_at, is_duplicate, ArePlaced, Row, IsRow, places_of, addresses_of}
+use Rattle.sp_asm.specs.Values.{operand_words, AreValues, OneIsWithoutValue, AreInRange}
+use Rattle.sp_asm.specs.Assembly.{Place, uses_names_above, HasPlaceValue, HasRoom, address_after, names_above, names_at, is_duplicate, ArePlaced, Row, IsRow, places_of, addresses_of}
 
 -- ---- Operands without a value
 
@@ -22,7 +19,7 @@ use Rattle.sp_asm.specs.Assembly.{IsAssembly, Place, uses_names_above, HasPlaceV
 pub record IsMissing (names : List ℕ → Option ℕ) (operands : List Operand) (name : List ℕ) : Type 0 where
   pub operand : Operand
   pub among : Contains operands operand
-  pub used : Contains (words_of operand) (words.Name name)
+  pub used : Contains (operand_words operand) (words.Name name)
   pub missing : names name ≡ None
 
 -- one of them is defined, but later
@@ -73,17 +70,17 @@ BreaksRow statements all above p Duplicate = ⊥
 BreaksRow statements all above p PastEnd = ⊥
 
 -- of the equations of places the first that are broken are those of the statement on this line
-pub record FirstRound (statements : List Statement) (kind : AsmKind) (line : Line) : Type 0 where
+pub record FirstRound (statements : List Statement) (line : ℕ) (kind : AsmKind) : Type 0 where
   pub above : List Place
   pub broken : Statement
   pub below : List Statement
   pub whole : statements ≡ map (λ (p : Place). p.statement) above ++ broken ∷ below
   pub placed : ArePlaced above
-  pub at : broken.line ≡ line
+  pub at : broken.line.0 ≡ line
   pub breaks : BreaksPlace statements above broken kind
 
 -- all statements have their places, and of the equations of rows the first that are broken are those of this line
-pub record SecondRound (statements : List Statement) (kind : AsmKind) (line : Line) : Type 0 where
+pub record SecondRound (statements : List Statement) (line : ℕ) (kind : AsmKind) : Type 0 where
   pub all : List Place
   pub whole : map (λ (p : Place). p.statement) all ≡ statements
   pub placed : ArePlaced all
@@ -93,32 +90,12 @@ pub record SecondRound (statements : List Statement) (kind : AsmKind) (line : Li
   pub parts : all ≡ places_of above ++ broken ∷ below
   pub rows : (first later : List Row) (r : Row) → above ≡ first ++ r ∷ later → IsRow all (places_of first) r
   pub apart : IsDistinct nat_eq (addresses_of above)
-  pub at : broken.statement.line ≡ line
+  pub at : broken.statement.line.0 ≡ line
   pub breaks : BreaksRow statements all above broken kind
 
--- a refusal of kind and line is right: statements are read first, then places, then rows
-abbrev pub IsCauseAt : List ℕ → List SourceLine → AsmKind → Line → Type 0
-IsCauseAt source lines Syntax line = statements_of source lines ≡ Err (record { kind = parse.Syntax; line = line.0 })
-IsCauseAt source lines TooDeep line = statements_of source lines ≡ Err (record { kind = parse.TooDeep; line = line.0 })
-IsCauseAt source lines kind line = (statements : List Statement) × (statements_of source lines ≡ Ok statements) × (FirstRound statements kind line ⊎ SecondRound statements kind line)
-
-abbrev pub IsCause : List ℕ → List SourceLine → AsmRefusal → Type 0
-IsCause source lines (refusal.Syntax line) = IsCauseAt source lines Syntax line
-IsCause source lines (refusal.TooDeep line) = IsCauseAt source lines TooDeep line
-IsCause source lines (refusal.Duplicate line) = IsCauseAt source lines Duplicate line
-IsCause source lines (refusal.Later line) = IsCauseAt source lines Later line
-IsCause source lines (refusal.Undefined line) = IsCauseAt source lines Undefined line
-IsCause source lines (refusal.ZeroDivisor line) = IsCauseAt source lines ZeroDivisor line
-IsCause source lines (refusal.Range line) = IsCauseAt source lines Range line
-IsCause source lines (refusal.PastEnd line) = IsCauseAt source lines PastEnd line
-IsCause source lines (refusal.Overlap line) = IsCauseAt source lines Overlap line
-IsCause source lines refusal.Memory = ⊥
-
--- the statements of a source have this assembly
-abbrev pub Assembles : List ℕ → List SourceLine → List Row → Type 0
-Assembles source lines rows = (statements : List Statement) × (statements_of source lines ≡ Ok statements) × IsAssembly statements rows
-
--- a source is refused for one cause at most, and none that has an assembly is
-pub record AnswersAreOne : Type 0 where
-  pub one_cause : (source : List ℕ) (lines : List SourceLine) (one other : AsmRefusal) → IsCause source lines one → IsCause source lines other → one ≡ other
-  pub no_cause : (source : List ℕ) (lines : List SourceLine) (rows : List Row) (refusal : AsmRefusal) → Assembles source lines rows → IsCause source lines refusal → ⊥
+-- why a source with these lines isn't assembled, and the number of the line: first the lowest line that is no statement, then
+-- the first round, then the second
+abbrev pub IsCause : List ℕ → List SourceLine → ℕ → AsmKind → Type 0
+IsCause source lines at Syntax = IsUnread source lines at unread.Syntax
+IsCause source lines at TooDeep = IsUnread source lines at unread.TooDeep
+IsCause source lines at kind = (statements : List Statement) × AreStatementsOf source lines statements × (FirstRound statements at kind ⊎ SecondRound statements at kind)

@@ -7,11 +7,11 @@ use Rattle.sp_stmt.specs.declared.operand.Operand.{Operand}
 use Rattle.sp_stmt.specs.declared.operand.Operand.TheVariants as operand
 
 -- the words of an operand's expression
-abbrev pub words_of : Operand → List Word
-words_of (operand.Text characters) = []
-words_of (operand.Byte ws) = ws
-words_of (operand.Word ws) = ws
-words_of (operand.Restart ws) = ws
+abbrev pub operand_words : Operand → List Word
+operand_words (operand.Text characters) = []
+operand_words (operand.Byte ws) = ws
+operand_words (operand.Word ws) = ws
+operand_words (operand.Restart ws) = ws
 
 -- an expression has this value at an address, where each name has its value
 pub record HasValue (names : List ℕ → Option ℕ) (here : ℕ) (ws : List Word) (value : ℕ) : Type 0 where

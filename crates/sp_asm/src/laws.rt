@@ -1,12 +1,11 @@
-ghost use Rattle.sp_asm.specs.Assembly.{AssembliesAreOne};
-ghost use Rattle.sp_asm.specs.Refusals.{AnswersAreOne};
+ghost use Rattle.sp_asm.specs.Source.{AssembliesAreOne, CausesAreOne};
 
-/// The statements of a source have at most one assembly.
+/// A source has at most one assembly.
 pub fn a_source_has_one_assembly()
     ensures { AssembliesAreOne }
 {}
 
-/// A source is refused for at most one cause, and none that has an assembly is.
-pub fn a_source_has_one_answer()
-    ensures { AnswersAreOne }
+/// A source is refused for one kind at one line, and never where it has an assembly.
+pub fn causes_are_one()
+    ensures { CausesAreOne }
 {}

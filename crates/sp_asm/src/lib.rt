@@ -3,19 +3,17 @@
 #![tactic(auto)]
 
 mod assembler;
-mod data;
+mod bytes;
 mod faults;
 mod laws;
 mod listing;
+mod names;
 mod places;
 mod refusal;
 mod rows;
 mod values;
 
 pub use assembler::assemble;
-pub use laws::{a_source_has_one_answer, a_source_has_one_assembly};
+pub use laws::{a_source_has_one_assembly, causes_are_one};
 pub use listing::{Item, ItemKind, Items, Listing};
 pub use refusal::{AsmKind, AsmRefusal};
-
-#[cfg(test)]
-mod tests;

@@ -1,9 +1,6 @@
-ghost use Rattle.std.specs.Prelude.{◌≡◌};
-
-use sp_base::{Image, Line, Name};
+use sp_base::{Image, Line, Name, Seq};
 use sp_expr::Symbols;
 use sp_isa::Instr;
-use std::marker::Model;
 
 /// What a statement is in a listing.
 #[derive(Clone, Copy, Debug)]
@@ -21,7 +18,7 @@ pub enum ItemKind {
     Other,
 }
 
-/// A statement with its line and address. At 65,536, behind the last address, stand statements without bytes.
+/// A statement with its line and address. At 65,536, after the last address, stand statements without bytes.
 #[derive(Clone, Copy, Debug)]
 pub struct Item {
     pub line: Line,
@@ -32,36 +29,8 @@ pub struct Item {
     pub kind: ItemKind,
 }
 
-/// The statements of a source, by rising line. Contracts see a list.
-#[derive(Debug, Drop)]
-pub struct Items {
-    items: Vec<Item>,
-}
-
-impl Model for Items {
-    ghost use Rattle.std.specs.Prelude.{List};
-    ghost use Rattle.sp_asm.specs.declared.listing.Item.{Item};
-
-    ghost Value = { List Item };
-
-    ghost view = { λ items. items.items.items };
-}
-
-impl Items {
-    /// The list of these items.
-    pub fn from_vec(items: Vec<Item>) -> Items
-        ensures { result ≡ items.items }
-    {
-        Items { items }
-    }
-
-    /// The items in order.
-    pub fn as_slice(&self) -> &[Item]
-        ensures { result.now ≡ self.now }
-    {
-        self.items.as_slice()
-    }
-}
+/// The statements of a source, by rising line.
+pub type Items = Seq<Item>;
 
 /// An assembled source: its statements, its bytes, and its names in order of definition, those of SET with their last
 /// values.

@@ -1,15 +1,18 @@
 //! The first pass: the address of each statement, and the names that statements define.
 ghost use Rattle.std.specs.Prelude.{◌≡◌, ◌≤◌, ◌<◌, ◌%◌, [], List, All, false, fold, IfOk, IfErr, OnOk, IfSome, IfNone, IsSome};
+ghost use Rattle.sp_base.specs.Refused.{Answers};
 ghost use Rattle.sp_stmt.specs.Statements.{IsStatement};
 ghost use Rattle.sp_asm.specs.Names.{fixed, with_definition};
 ghost use Rattle.sp_asm.specs.Assembly.{Place, uses_names_above, names_above, is_duplicate, defined_value, definition_by, HasPlaceValue, address_after, address_behind};
-ghost use Rattle.sp_asm.specs.Passes.{IsPlaces, ArePlaces, HasPlaced, StopsPlace, RefusesFirst};
+ghost use Rattle.sp_asm.specs.code.Passes.{IsPlaces, ArePlaces, HasPlaced, RefusesLine};
+ghost use Rattle.sp_asm.specs.Refusals.{BreaksPlace, FirstRound};
 
-use crate::data::{address_behind, first};
-use crate::faults::{declared, fault_of, is_set, name_of};
-use crate::refusal::{AsmKind, AsmRefusal, Stop};
+use crate::bytes::{address_behind, first};
+use crate::faults::fault_of;
+use crate::names::{declared_names, is_set, name_of};
+use crate::refusal::{AsmKind, AsmRefusal};
 use crate::values::evaluate;
-use sp_base::{Memory, Name};
+use sp_base::{Memory, Name, Refused};
 use sp_expr::Symbols;
 use sp_stmt::{Code, Statement};
 use std::alloc::Global;
@@ -25,7 +28,7 @@ pub(crate) struct Spot {
 #[derive(Drop)]
 pub(crate) struct Places {
     pub spots: Vec<Spot>,
-    /// The address behind them.
+    /// The address after them.
     pub address: u32,
     /// The names that they define.
     pub names: Symbols,
@@ -78,10 +81,10 @@ impl Places {
         values: &mut Vec<u16>,
         all: &[Statement],
         s: &Statement,
-    ) -> Result<u16, Stop>
+    ) -> Result<u16, AsmRefusal>
         requires { IsStatement s.now }
         ensures ok { (places : List Place) → IsPlaces self.now places → IfOk result (λ x. HasPlaceValue (uses_names_above s.now.code) (names_above places) (address_after places % 65536) s.now.operands x) }
-        ensures err { (places : List Place) → IsPlaces self.now places → is_duplicate places s.now ≡ false → IfErr result (StopsPlace all.now places s.now) }
+        ensures err { (places : List Place) → IsPlaces self.now places → is_duplicate places s.now ≡ false → IfErr result (RefusesLine s.now.line (BreaksPlace all.now places s.now)) }
     {
         if !uses_names_above(s.code) {
             return Ok(0);
@@ -90,8 +93,9 @@ impl Places {
         if evaluate(values, s.operands.as_slice(), &self.names, here)? {
             return Ok(first(values));
         }
-        let declared = declared(alloc, all)?;
-        Err(Stop::Breaks(fault_of(s.operands.as_slice(), &self.names, &declared)))
+        let declared = declared_names(alloc, all)?;
+        let kind = fault_of(s.operands.as_slice(), &self.names, &declared);
+        Err(Refused::At(s.line, kind))
     }
 
     /// Takes in a name that is defined with this value.
@@ -110,27 +114,27 @@ impl Places {
         Ok(())
     }
 
-    /// Gives a statement its place behind those that have theirs, or says how it breaks the rules of places.
-    fn place(
+    /// Gives a statement its place after those that have theirs, or says how it breaks the rules of places.
+    fn add_place(
         &mut self,
         alloc: Global,
         values: &mut Vec<u16>,
         all: &[Statement],
         s: &Statement,
-    ) -> Result<(), Stop>
+    ) -> Result<(), AsmRefusal>
         requires statement { IsStatement s.now }
         requires within { self.old.address ≤ 65536 }
         ensures ok { (places : List Place) → IsPlaces self.old places → OnOk result (HasPlaced self.new places s.now) }
-        ensures err { (places : List Place) → IsPlaces self.old places → IfErr result (StopsPlace all.now places s.now) }
+        ensures err { (places : List Place) → IsPlaces self.old places → IfErr result (RefusesLine s.now.line (BreaksPlace all.now places s.now)) }
         ensures still_within { OnOk result (self.new.address ≤ 65536) }
     {
         if self.is_duplicate(s) {
-            return Err(Stop::Breaks(AsmKind::Duplicate));
+            return Err(Refused::At(s.line, AsmKind::Duplicate));
         }
         let value = self.value_of(alloc, values, all, s)?;
         let address = self.address;
         let Some(next) = room_for(alloc, s, address, value) else {
-            return Err(Stop::Breaks(AsmKind::PastEnd));
+            return Err(Refused::At(s.line, AsmKind::PastEnd));
         };
         self.define(
             name_of(s),
@@ -143,7 +147,7 @@ impl Places {
     }
 }
 
-/// The address behind a statement that stands at an address with this value, where there is room for it and its label.
+/// The address after a statement that stands at an address with this value, where there is room for it and its label.
 fn room_for(alloc: Global, s: &Statement, address: u32, value: u16) -> Option<u32>
     requires statement { IsStatement s.now }
     requires within { address ≤ 65536 }
@@ -168,18 +172,14 @@ fn defined_value(code: Code, address: u32, value: u16) -> u16
 }
 
 /// The places of all statements, or the first that breaks the rules of places.
-pub(crate) fn placed(alloc: Global, statements: &[Statement]) -> Result<Places, AsmRefusal>
+pub(crate) fn places_of(alloc: Global, statements: &[Statement]) -> Result<Places, AsmRefusal>
     requires { All IsStatement statements.now }
-    ensures ok { IfOk result (ArePlaces statements.now) }
-    ensures err { IfErr result (RefusesFirst statements.now) }
+    ensures { Answers (ArePlaces statements.now) (FirstRound statements.now) result }
 {
     let mut places = Places::new(alloc);
     let mut values = Vec::new(alloc);
     for s in statements {
-        match places.place(alloc, &mut values, statements, s) {
-            Ok(()) => {}
-            Err(stop) => return Err(stop.at(s.line)),
-        }
+        places.add_place(alloc, &mut values, statements, s)?;
     }
     Ok(places)
 }

@@ -3,7 +3,7 @@ ghost use Rattle.std.specs.Prelude.{◌≡◌, All, IfOk, IfSome, IfNone, length
 ghost use Rattle.sp_stmt.specs.Statements.{HaveTree, IsExpressed};
 ghost use Rattle.sp_asm.specs.Names.{value_in};
 ghost use Rattle.sp_asm.specs.Values.{HasValue, HasNoValue, IsValue, IsWithoutValue, is_in_range, are_in_range};
-ghost use Rattle.sp_asm.specs.Passes.{Evaluated};
+ghost use Rattle.sp_asm.specs.code.Passes.{Evaluated};
 
 use sp_base::Memory;
 use sp_expr::{Expr, Symbols, value};

@@ -1,0 +1,3 @@
+-- Definitions that only the code's proofs speak of.
+pub mod Kinds
+pub mod Passes
