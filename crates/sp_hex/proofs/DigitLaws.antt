@@ -3,7 +3,7 @@ use Rattle.std.proofs.Common.{◌≡◌, ℕ, suc, ◌<◌, List, [], ◌∷◌,
 use Rattle.std.proofs.lemmas.List.{append-nil, nil_from_length}
 use Rattle.std.specs.Prelude.{option_map, option_and_then, unwrap_or}
 use Rattle.sp_hex.specs.Hex.{byte_of, bytes_of}
-use Rattle.sp_hex.specs.Reading.{byte_at}
+use Rattle.sp_hex.specs.code.Reading.{byte_at}
 
 -- bytes read before, and what is read of the rest
 abbrev pub with_front : List ℕ → Option (List ℕ) → Option (List ℕ)

@@ -1,5 +1,4 @@
 pub mod DigitLaws
-pub mod LineLaws
 pub mod LoadLaws
 pub mod LoopLaws
 pub mod RecordLaws

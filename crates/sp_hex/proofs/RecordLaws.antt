@@ -7,10 +7,11 @@ use Rattle.std.proofs.lemmas.List.{length_push, nil_from_length}
 use Rattle.std.proofs.lemmas.Bool.{cases_Bool, le-leb, leb-true, eq-eqb, eqb-true, eqb-false, and_parts, cond-true, cond-false}
 use Rattle.sp_base.specs.declared.line.Line.{Line}
 use Rattle.sp_base.specs.Cells.{Data}
-use Rattle.sp_hex.specs.declared.refusal.HexRefusal.{HexRefusal}
-use Rattle.sp_hex.specs.declared.refusal.HexRefusal.TheVariants as refusals
+use Rattle.sp_base.specs.declared.refused.Refused.TheVariants as refused
+use Rattle.sp_hex.specs.declared.refusal.HexKind.TheVariants as hex
+use Rattle.sp_hex.specs.Refusals.{HexRefusal}
 use Rattle.sp_hex.specs.Hex.{fields, data_type, end_type, digit_value, byte_of, bytes_of, line_bytes, HasForm, HasSum, IsDataLine, IsEndLine}
-use Rattle.sp_hex.specs.Reading.{Content, data_record, end_record, ◌>>=◌, content_with, content_of, with_sum, or_bad_record, record_at}
+use Rattle.sp_hex.specs.code.Reading.{Content, data_record, end_record, ◌>>=◌, content_with, content_of, with_sum, or_bad_record, held_at, record_at}
 
 -- ---- Small things
 
@@ -156,12 +157,12 @@ content_is (len ∷ high ∷ low ∷ kind ∷ []) held below h = absurd (not_non
 abbrev pub Tells : ℕ → List ℕ → Result Content HexRefusal → Type 0
 Tells number line (Ok (data_record d)) = IsDataLine line d
 Tells number line (Ok end_record) = IsEndLine line
-Tells number line (Err (refusals.BadRecord at)) = (at ≡ record { 0 = number }) × ¬ (HasForm line)
-Tells number line (Err (refusals.BadSum at)) = (at ≡ record { 0 = number }) × HasForm line × ¬ (HasSum line)
-Tells number line (Err (refusals.Overlap at)) = ⊥
-Tells number line (Err refusals.NoEnd) = ⊥
-Tells number line (Err (refusals.AfterEnd at)) = ⊥
-Tells number line (Err refusals.Memory) = ⊥
+Tells number line (Err (refused.At at hex.BadRecord)) = (at ≡ record { 0 = number }) × ¬ (HasForm line)
+Tells number line (Err (refused.At at hex.BadSum)) = (at ≡ record { 0 = number }) × HasForm line × ¬ (HasSum line)
+Tells number line (Err (refused.At at hex.Overlap)) = ⊥
+Tells number line (Err (refused.At at hex.NoEnd)) = ⊥
+Tells number line (Err (refused.At at hex.AfterEnd)) = ⊥
+Tells number line (Err refused.Memory) = ⊥
 
 -- a line in a record's form spells bytes that hold something
 HasContent : List ℕ → Type 0
@@ -202,12 +203,13 @@ tells_held number line bytes None is none = (refl, no_content line bytes is none
 tells_held number line bytes (Some held) is some =
     let holds = content_is bytes held (line_below line bytes is) some in
     elim (cases_Bool (eqb (sum bytes % 256) 0)) [
-      | inl balanced ↦ subst (Tells number line) (sym (cond-true (eqb (sum bytes % 256) 0) (Ok held) (Err (refusals.BadSum (record { 0 = number }))) balanced)) (right_line number line bytes held is holds (eqb-true _ _ balanced))
-      | inr off ↦ subst (Tells number line) (sym (cond-false (eqb (sum bytes % 256) 0) (Ok held) (Err (refusals.BadSum (record { 0 = number }))) off)) (refl, form_of line bytes held is holds, no_sum line bytes is off)
+      | inl balanced ↦ subst (Tells number line) (sym (cond-true (eqb (sum bytes % 256) 0) (Ok held) (Err (refused.At (record { 0 = number }) hex.BadSum)) balanced)) (right_line number line bytes held is holds (eqb-true _ _ balanced))
+      | inr off ↦ subst (Tells number line) (sym (cond-false (eqb (sum bytes % 256) 0) (Ok held) (Err (refused.At (record { 0 = number }) hex.BadSum)) off)) (refl, form_of line bytes held is holds, no_sum line bytes is off)
     ]
 
 tells_bytes : (number : ℕ) (line : List ℕ) (o : Option (List ℕ)) → line_bytes line ≡ o
-    → Tells number line (or_bad_record number o >>= λ bytes. or_bad_record number (content_of bytes) >>= λ held. with_sum number bytes held)
+    → Tells number line (or_bad_record number o >>= held_at number)
+unfolding held_at
 tells_bytes number line None none = (refl, no_bytes line none)
 tells_bytes number line (Some bytes) is = tells_held number line bytes (content_of bytes) is refl
 
@@ -216,7 +218,7 @@ unfolding record_at
 record_tells number line = tells_bytes number line (line_bytes line) refl
 
 record_when : (number : ℕ) (line bytes : List ℕ) (held : Content) → line_bytes line ≡ Some bytes → content_of bytes ≡ Some held → sum bytes % 256 ≡ 0 → record_at number line ≡ Ok held
-unfolding record_at
+unfolding record_at held_at
 record_when number line bytes held is some balanced = rw (is, some, eq-eqb (sum bytes % 256) 0 balanced) refl
 
 zero_sum : (line bytes : List ℕ) → HasSum line → line_bytes line ≡ Some bytes → sum bytes % 256 ≡ 0
@@ -229,25 +231,25 @@ data_again number line d (f, s) =
 pub end_again : (number : ℕ) (line : List ℕ) → IsEndLine line → record_at number line ≡ Ok end_record
 end_again number line (f, s) = record_when number line _ end_record f.spelled (end_content f.address f.checksum) (zero_sum line _ s f.spelled)
 
-pub bad_record_again : (number : ℕ) (line : List ℕ) (r : Result Content HexRefusal) → Tells number line r → ¬ (HasForm line) → r ≡ Err (refusals.BadRecord (record { 0 = number }))
+pub bad_record_again : (number : ℕ) (line : List ℕ) (r : Result Content HexRefusal) → Tells number line r → ¬ (HasForm line) → r ≡ Err (refused.At (record { 0 = number }) hex.BadRecord)
 bad_record_again number line (Ok (data_record d)) (f, s) bad = absurd (bad (inl (d, f)))
 bad_record_again number line (Ok end_record) (f, s) bad = absurd (bad (inr f))
-bad_record_again number line (Err (refusals.BadRecord at)) (is, not) bad = ap (λ (x : Line). Err (refusals.BadRecord x)) is
-bad_record_again number line (Err (refusals.BadSum at)) (is, form, not) bad = absurd (bad form)
-bad_record_again number line (Err (refusals.Overlap at)) told bad = absurd told
-bad_record_again number line (Err refusals.NoEnd) told bad = absurd told
-bad_record_again number line (Err (refusals.AfterEnd at)) told bad = absurd told
-bad_record_again number line (Err refusals.Memory) told bad = absurd told
+bad_record_again number line (Err (refused.At at hex.BadRecord)) (is, not) bad = ap (λ (x : Line). Err (refused.At x hex.BadRecord)) is
+bad_record_again number line (Err (refused.At at hex.BadSum)) (is, form, not) bad = absurd (bad form)
+bad_record_again number line (Err (refused.At at hex.Overlap)) told bad = absurd told
+bad_record_again number line (Err (refused.At at hex.NoEnd)) told bad = absurd told
+bad_record_again number line (Err (refused.At at hex.AfterEnd)) told bad = absurd told
+bad_record_again number line (Err refused.Memory) told bad = absurd told
 
-pub bad_sum_again : (number : ℕ) (line : List ℕ) (r : Result Content HexRefusal) → Tells number line r → HasForm line → ¬ (HasSum line) → r ≡ Err (refusals.BadSum (record { 0 = number }))
+pub bad_sum_again : (number : ℕ) (line : List ℕ) (r : Result Content HexRefusal) → Tells number line r → HasForm line → ¬ (HasSum line) → r ≡ Err (refused.At (record { 0 = number }) hex.BadSum)
 bad_sum_again number line (Ok (data_record d)) (f, s) form bad = absurd (bad s)
 bad_sum_again number line (Ok end_record) (f, s) form bad = absurd (bad s)
-bad_sum_again number line (Err (refusals.BadRecord at)) (is, not) form bad = absurd (not form)
-bad_sum_again number line (Err (refusals.BadSum at)) (is, has, not) form bad = ap (λ (x : Line). Err (refusals.BadSum x)) is
-bad_sum_again number line (Err (refusals.Overlap at)) told form bad = absurd told
-bad_sum_again number line (Err refusals.NoEnd) told form bad = absurd told
-bad_sum_again number line (Err (refusals.AfterEnd at)) told form bad = absurd told
-bad_sum_again number line (Err refusals.Memory) told form bad = absurd told
+bad_sum_again number line (Err (refused.At at hex.BadRecord)) (is, not) form bad = absurd (not form)
+bad_sum_again number line (Err (refused.At at hex.BadSum)) (is, has, not) form bad = ap (λ (x : Line). Err (refused.At x hex.BadSum)) is
+bad_sum_again number line (Err (refused.At at hex.Overlap)) told form bad = absurd told
+bad_sum_again number line (Err (refused.At at hex.NoEnd)) told form bad = absurd told
+bad_sum_again number line (Err (refused.At at hex.AfterEnd)) told form bad = absurd told
+bad_sum_again number line (Err refused.Memory) told form bad = absurd told
 
 -- a data record stands in memory
 pub record_within : (number : ℕ) (line : List ℕ) (d : Data) → record_at number line ≡ Ok (data_record d) → d.address + length d.bytes ≤ 65536

@@ -10,7 +10,7 @@ use Rattle.std.specs.FinMap.{find, is_sorted}
 use Rattle.std.specs.FinMap.Entries.{below_all}
 use Rattle.sp_base.specs.Image.{ImageMap, NextByte, NoByteFrom}
 use Rattle.sp_hex.specs.Hex.{AreFull, AreWritten, records_from, records_of, written_record, data_type, end_type, text}
-use Rattle.sp_hex.specs.Rows.{rising, AreNext, IsRow}
+use Rattle.sp_hex.specs.code.Rows.{rising, AreNext, IsRow}
 use Rattle.sp_base.proofs.FindLaws.{Cells, here, other, some_is_not_none, order_parts, less}
 use Rattle.sp_base.specs.Cells.{Data, cells_at, cells_of}
 

@@ -1,20 +1,22 @@
 -- Reading a text answers what the text is: the image that it stands for, or the refusal that has its cause.
 use Rattle.std.proofs.Common.{◌≡◌, ◌≢◌, ◌⊎◌, ℕ, suc, ◌+◌, eqb, List, [], ◌∷◌, ◌++◌, length, refl, sym, ap, subst, ◌∙◌, inl, inr, Option, Some, None, Result, Ok, Err, All, arith, append_assoc}
-use Rattle.std.specs.Prelude.{IfOk, IfErr}
 use Rattle.std.specs.List.{AllZip, AllByRecursion, IsDistinct}
 use Rattle.std.specs.FinMap as maps
-use Rattle.std.specs.Str.Lines.{lines}
+use Rattle.sp_base.specs.Lines.{lines}
 use Rattle.std.proofs.lemmas.Bool.{cases_Bool, eqb-true, eqb-false, eq-eqb, ne_eqb, cond-true, cond-false}
 use Rattle.std.proofs.lemmas.List.{append-nil, nil_from_length, length_push}
 use Rattle.std.proofs.lemmas.List.Concat.{flat_map-append}
 use Rattle.std.proofs.lemmas.List.Elements.{All-from_recursion, All-head, All-tail}
 use Rattle.sp_base.specs.Image.{ImageMap}
 use Rattle.sp_base.specs.declared.line.Line.{Line}
-use Rattle.sp_hex.specs.declared.refusal.HexRefusal.{HexRefusal}
-use Rattle.sp_hex.specs.declared.refusal.HexRefusal.TheVariants as refusals
+use Rattle.sp_base.specs.Refused.{Answers, IsComplete, IsUnlessMemory, at_line}
+use Rattle.sp_base.specs.declared.refused.Refused.TheVariants as refused
+use Rattle.sp_hex.specs.declared.refusal.HexKind.{HexKind}
+use Rattle.sp_hex.specs.declared.refusal.HexKind.TheVariants as hex
+use Rattle.sp_hex.specs.Refusals.{HexRefusal}
 use Rattle.sp_hex.specs.Hex.{IsDataLine, IsEndLine, NoneTwice, StandsFor}
-use Rattle.sp_hex.specs.Refusals.{Reaches, NoEndIn, IsCause}
-use Rattle.sp_hex.specs.Reading.{Content, data_record, end_record, ◌>>=◌, Fails, Gives, or_overlap, after_record, record_at, empty_from, reading}
+use Rattle.sp_hex.specs.Refusals.{Reaches, NoEndAt, IsCause}
+use Rattle.sp_hex.specs.code.Reading.{Content, data_record, end_record, ◌>>=◌, Gives, or_overlap, after_record, record_at, empty_from, reading}
 use Rattle.sp_base.proofs.CellLaws.{Apart, map_of, some_map, apart_front, placed_apart, placed_some, cells_more}
 use Rattle.sp_hex.proofs.RecordLaws.{Tells, record_tells, data_again, end_again, bad_record_again, bad_sum_again}
 use Rattle.sp_base.proofs.FindLaws.{Cells}
@@ -34,34 +36,34 @@ zip_push R (a ∷ xs) (b ∷ ys) x y h r = (h.0, zip_push R xs ys x y h.1 r)
 -- what looking at lines answers, in terms of the lines
 abbrev Looked : ℕ → Texts → Result (Unit {0}) HexRefusal → Type 0
 Looked number more (Ok done) = AllByRecursion (λ line. line ≡ []) more
-Looked number more (Err (refusals.AfterEnd at)) = (between : Texts) × (line : List ℕ) × (after : Texts) × (more ≡ between ++ line ∷ after) × (at ≡ record { 0 = number + length between }) × AllByRecursion (λ l. l ≡ []) between × (line ≢ [])
-Looked number more (Err (refusals.BadRecord at)) = ⊥
-Looked number more (Err (refusals.BadSum at)) = ⊥
-Looked number more (Err (refusals.Overlap at)) = ⊥
-Looked number more (Err refusals.NoEnd) = ⊥
-Looked number more (Err refusals.Memory) = ⊥
+Looked number more (Err (refused.At at hex.AfterEnd)) = (between : Texts) × (line : List ℕ) × (after : Texts) × (more ≡ between ++ line ∷ after) × (at ≡ record { 0 = number + length between }) × AllByRecursion (λ l. l ≡ []) between × (line ≢ [])
+Looked number more (Err (refused.At at hex.BadRecord)) = ⊥
+Looked number more (Err (refused.At at hex.BadSum)) = ⊥
+Looked number more (Err (refused.At at hex.Overlap)) = ⊥
+Looked number more (Err (refused.At at hex.NoEnd)) = ⊥
+Looked number more (Err refused.Memory) = ⊥
 
 line_number : (n m : ℕ) → n ≡ m → ◌≡◌ {A = Line} (record { 0 = n }) (record { 0 = m })
 line_number n m e = ap (λ (k : ℕ). let line : Line = record { 0 = k } in line) e
 
 looked_more : (number : ℕ) (line : List ℕ) (more : Texts) (r : Result (Unit {0}) HexRefusal) → line ≡ [] → Looked (number + 1) more r → Looked number (line ∷ more) r
 looked_more number line more (Ok done) none h = (none, h)
-looked_more number line more (Err (refusals.AfterEnd at)) none (between, l, after, e, place, empty, some) =
+looked_more number line more (Err (refused.At at hex.AfterEnd)) none (between, l, after, e, place, empty, some) =
     (line ∷ between, l, after, ap (λ (x : Texts). line ∷ x) e, place ∙ line_number _ _ (omega arith), (none, empty), some)
-looked_more number line more (Err (refusals.BadRecord at)) none h = absurd h
-looked_more number line more (Err (refusals.BadSum at)) none h = absurd h
-looked_more number line more (Err (refusals.Overlap at)) none h = absurd h
-looked_more number line more (Err refusals.NoEnd) none h = absurd h
-looked_more number line more (Err refusals.Memory) none h = absurd h
+looked_more number line more (Err (refused.At at hex.BadRecord)) none h = absurd h
+looked_more number line more (Err (refused.At at hex.BadSum)) none h = absurd h
+looked_more number line more (Err (refused.At at hex.Overlap)) none h = absurd h
+looked_more number line more (Err (refused.At at hex.NoEnd)) none h = absurd h
+looked_more number line more (Err refused.Memory) none h = absurd h
 
 looked : (number : ℕ) (more : Texts) → Looked number more (empty_from number more)
 unfolding empty_from
 looked number [] = tt
 looked number (line ∷ more) =
     elim (cases_Bool (eqb (length line) 0)) [
-      | inl none ↦ subst (Looked number (line ∷ more)) (sym (cond-true (eqb (length line) 0) (empty_from (number + 1) more) (Err (refusals.AfterEnd (record { 0 = number }))) none))
+      | inl none ↦ subst (Looked number (line ∷ more)) (sym (cond-true (eqb (length line) 0) (empty_from (number + 1) more) (Err (refused.At (record { 0 = number }) hex.AfterEnd)) none))
           (looked_more number line more (empty_from (number + 1) more) (nil_from_length line (eqb-true _ _ none)) (looked (number + 1) more))
-      | inr some ↦ subst (Looked number (line ∷ more)) (sym (cond-false (eqb (length line) 0) (empty_from (number + 1) more) (Err (refusals.AfterEnd (record { 0 = number }))) some))
+      | inr some ↦ subst (Looked number (line ∷ more)) (sym (cond-false (eqb (length line) 0) (empty_from (number + 1) more) (Err (refused.At (record { 0 = number }) hex.AfterEnd)) some))
           ([], line, more, refl, line_number _ _ (omega arith), tt, λ e. eqb-false (length line) 0 some (ap length e))
     ]
 
@@ -69,27 +71,28 @@ pub empty_again : (number : ℕ) (more : Texts) → All (λ line. line ≡ []) m
 unfolding empty_from
 empty_again number [] h = refl
 empty_again number (line ∷ more) h =
-    cond-true (eqb (length line) 0) (empty_from (number + 1) more) (Err (refusals.AfterEnd (record { 0 = number }))) (eq-eqb _ _ (ap length (All-head (λ l. l ≡ []) line more h)))
+    cond-true (eqb (length line) 0) (empty_from (number + 1) more) (Err (refused.At (record { 0 = number }) hex.AfterEnd)) (eq-eqb _ _ (ap length (All-head (λ l. l ≡ []) line more h)))
     ∙ empty_again (number + 1) more (All-tail (λ l. l ≡ []) line more h)
 
 some_length : (line : List ℕ) → line ≢ [] → length line ≡ 0 → ⊥
 some_length line some e = some (nil_from_length line e)
 
-pub after_again : (number : ℕ) (between : Texts) (line : List ℕ) (after : Texts) → All (λ l. l ≡ []) between → line ≢ [] → empty_from number (between ++ line ∷ after) ≡ Err (refusals.AfterEnd (record { 0 = number + length between }))
+pub after_again : (number : ℕ) (between : Texts) (line : List ℕ) (after : Texts) → All (λ l. l ≡ []) between → line ≢ [] → empty_from number (between ++ line ∷ after) ≡ Err (refused.At (record { 0 = number + length between }) hex.AfterEnd)
 unfolding empty_from
 after_again number [] line after h some =
-    cond-false (eqb (length line) 0) (empty_from (number + 1) after) (Err (refusals.AfterEnd (record { 0 = number }))) (ne_eqb _ _ (some_length line some))
-    ∙ ap (λ (x : Line). Err (refusals.AfterEnd x)) (line_number _ _ (omega arith))
+    cond-false (eqb (length line) 0) (empty_from (number + 1) after) (Err (refused.At (record { 0 = number }) hex.AfterEnd)) (ne_eqb _ _ (some_length line some))
+    ∙ ap (λ (x : Line). Err (refused.At x hex.AfterEnd)) (line_number _ _ (omega arith))
 after_again number (l ∷ between) line after h some =
-    cond-true (eqb (length l) 0) (empty_from (number + 1) (between ++ line ∷ after)) (Err (refusals.AfterEnd (record { 0 = number }))) (eq-eqb _ _ (ap length (All-head (λ x. x ≡ []) l between h)))
+    cond-true (eqb (length l) 0) (empty_from (number + 1) (between ++ line ∷ after)) (Err (refused.At (record { 0 = number }) hex.AfterEnd)) (eq-eqb _ _ (ap length (All-head (λ x. x ≡ []) l between h)))
     ∙ after_again (number + 1) between line after (All-tail (λ x. x ≡ []) l between h) some
-    ∙ ap (λ (x : Line). Err (refusals.AfterEnd x)) (line_number _ _ (omega arith))
+    ∙ ap (λ (x : Line). Err (refused.At x hex.AfterEnd)) (line_number _ _ (omega arith))
 
 -- ---- What reading answers has its cause
 
 abbrev pub IsAnswer : List ℕ → Result ImageMap HexRefusal → Type 0
 IsAnswer text (Ok image) = StandsFor text image
-IsAnswer text (Err refusal) = IsCause text refusal
+IsAnswer text (Err (refused.At line kind)) = IsCause text line.0 kind
+IsAnswer text (Err refused.Memory) = ⊥
 
 -- data records that were read, and the lines behind them
 record Front (text : List ℕ) (number : ℕ) (records : List Data) (rest : Texts) : Type 0 where
@@ -111,8 +114,8 @@ front_more text number records line more d f right apart = record {
   apart = apart;
 }
 
-no_end : (text : List ℕ) (number : ℕ) (records : List Data) → Front text number records [] → NoEndIn text
-no_end text number records f = record { records = records; each = subst (λ (x : Texts). AllZip IsDataLine x records) (sym (f.whole ∙ append-nil f.before)) f.each; apart = f.apart }
+no_end : (text : List ℕ) (number : ℕ) (records : List Data) → Front text number records [] → NoEndAt text 0
+no_end text number records f = record { records = records; each = subst (λ (x : Texts). AllZip IsDataLine x records) (sym (f.whole ∙ append-nil f.before)) f.each; apart = f.apart; place = refl }
 
 later : (number before between : ℕ) → number ≡ before + 1 → number + 1 + between ≡ before + 1 + (between + 1)
 later number before between e = omega arith
@@ -131,7 +134,7 @@ is_ended text number records line more f right (Ok done) h = record {
   apart = f.apart;
   exact = refl;
 }
-is_ended text number records line more f right (Err (refusals.AfterEnd at)) (between, l, after, e, place, empty, some) = record {
+is_ended text number records line more f right (Err (refused.At at hex.AfterEnd)) (between, l, after, e, place, empty, some) = record {
   last = line;
   records = records;
   before = f.before;
@@ -146,11 +149,11 @@ is_ended text number records line more f right (Err (refusals.AfterEnd at)) (bet
   empty = All-from_recursion (λ l. l ≡ []) between empty;
   broken = some;
 }
-is_ended text number records line more f right (Err (refusals.BadRecord at)) h = absurd h
-is_ended text number records line more f right (Err (refusals.BadSum at)) h = absurd h
-is_ended text number records line more f right (Err (refusals.Overlap at)) h = absurd h
-is_ended text number records line more f right (Err refusals.NoEnd) h = absurd h
-is_ended text number records line more f right (Err refusals.Memory) h = absurd h
+is_ended text number records line more f right (Err (refused.At at hex.BadRecord)) h = absurd h
+is_ended text number records line more f right (Err (refused.At at hex.BadSum)) h = absurd h
+is_ended text number records line more f right (Err (refused.At at hex.Overlap)) h = absurd h
+is_ended text number records line more f right (Err (refused.At at hex.NoEnd)) h = absurd h
+is_ended text number records line more f right (Err refused.Memory) h = absurd h
 
 overlaps : (records : List Data) (d : Data) → placed d.address d.bytes (map_of (cells_of records)) ≡ None → ¬ (NoneTwice (records ++ d ∷ []))
 overlaps records d none apart =
@@ -181,23 +184,23 @@ line_answer : (text : List ℕ) (number : ℕ) (records : List Data) (line : Lis
     → IsAnswer text (r >>= after_record number (map_of (cells_of records)) (λ i. reading (number + 1) i more) (empty_from (number + 1) more))
 line_answer text number records line more f go_on (Ok (data_record d)) told = placed_answer text number records line more d f told go_on (placed d.address d.bytes (map_of (cells_of records))) refl
 line_answer text number records line more f go_on (Ok end_record) told = is_ended text number records line more f told (empty_from (number + 1) more) (looked (number + 1) more)
-line_answer text number records line more f go_on (Err (refusals.BadRecord at)) (is, bad) = record {
+line_answer text number records line more f go_on (Err (refused.At at hex.BadRecord)) (is, bad) = record {
   line = line;
   records = records;
   broken = bad;
   reached = subst (λ (x : Line). Reaches text x.0 line records) (sym is) (front_reaches text number records line more f);
 }
-line_answer text number records line more f go_on (Err (refusals.BadSum at)) (is, form, bad) = record {
+line_answer text number records line more f go_on (Err (refused.At at hex.BadSum)) (is, form, bad) = record {
   line = line;
   records = records;
   form = form;
   broken = bad;
   reached = subst (λ (x : Line). Reaches text x.0 line records) (sym is) (front_reaches text number records line more f);
 }
-line_answer text number records line more f go_on (Err (refusals.Overlap at)) told = absurd told
-line_answer text number records line more f go_on (Err refusals.NoEnd) told = absurd told
-line_answer text number records line more f go_on (Err (refusals.AfterEnd at)) told = absurd told
-line_answer text number records line more f go_on (Err refusals.Memory) told = absurd told
+line_answer text number records line more f go_on (Err (refused.At at hex.Overlap)) told = absurd told
+line_answer text number records line more f go_on (Err (refused.At at hex.NoEnd)) told = absurd told
+line_answer text number records line more f go_on (Err (refused.At at hex.AfterEnd)) told = absurd told
+line_answer text number records line more f go_on (Err refused.Memory) told = absurd told
 
 from_front : (text : List ℕ) (rest : Texts) (number : ℕ) (records : List Data) → Front text number records rest → IsAnswer text (reading number (map_of (cells_of records)) rest)
 unfolding reading
@@ -268,60 +271,55 @@ not_placed records d None apart is twice = refl
 not_placed records d (Some image) apart is twice =
     absurd (twice (subst Apart (sym (cells_more records d)) (placed_some (cells_of records) d.address d.bytes image apart is).0))
 
-pub cause_again : (text : List ℕ) (refusal : HexRefusal) → IsCause text refusal → reading 1 maps.empty (lines text) ≡ Err refusal
+pub cause_again : (text : List ℕ) (number : ℕ) (kind : HexKind) → IsCause text number kind → reading 1 maps.empty (lines text) ≡ Err (at_line number kind)
 unfolding reading
-cause_again text (refusals.BadRecord at) h =
-    reading_line text at.0 h.records h.line h.reached.after _ (reached_front text at.0 h.line h.records h.reached) (bad_record_again at.0 h.line _ (record_tells at.0 h.line) h.broken)
-cause_again text (refusals.BadSum at) h =
-    reading_line text at.0 h.records h.line h.reached.after _ (reached_front text at.0 h.line h.records h.reached) (bad_sum_again at.0 h.line _ (record_tells at.0 h.line) h.form h.broken)
-cause_again text (refusals.Overlap at) h =
-    reading_line text at.0 h.records h.line h.reached.after _ (reached_front text at.0 h.line h.records h.reached) (data_again at.0 h.line h.last h.right)
-    ∙ ap (λ o. or_overlap at.0 o >>= λ i. reading (at.0 + 1) i h.reached.after) (not_placed h.records h.last (placed h.last.address h.last.bytes (map_of (cells_of h.records))) h.reached.apart refl h.broken)
-cause_again text refusals.NoEnd h =
+cause_again text number hex.BadRecord h =
+    reading_line text number h.records h.line h.reached.after _ (reached_front text number h.line h.records h.reached) (bad_record_again number h.line _ (record_tells number h.line) h.broken)
+cause_again text number hex.BadSum h =
+    reading_line text number h.records h.line h.reached.after _ (reached_front text number h.line h.records h.reached) (bad_sum_again number h.line _ (record_tells number h.line) h.form h.broken)
+cause_again text number hex.Overlap h =
+    reading_line text number h.records h.line h.reached.after _ (reached_front text number h.line h.records h.reached) (data_again number h.line h.last h.right)
+    ∙ ap (λ o. or_overlap number o >>= λ i. reading (number + 1) i h.reached.after) (not_placed h.records h.last (placed h.last.address h.last.bytes (map_of (cells_of h.records))) h.reached.apart refl h.broken)
+cause_again text number hex.NoEnd h =
     reading_at text (length (lines text) + 1) h.records [] (record { before = lines text; whole = sym (append-nil (lines text)); place = refl; each = h.each; apart = h.apart })
-cause_again text (refusals.AfterEnd at) h =
+    ∙ ap (λ (x : Line). Err (refused.At x hex.NoEnd)) (line_number _ _ (sym h.place))
+cause_again text number hex.AfterEnd h =
     let n = length h.before + 1 in
     let f : Front text n h.records (h.last ∷ (h.between ++ h.line ∷ h.after)) = record { before = h.before; whole = h.whole; place = refl; each = h.each; apart = h.apart } in
     reading_line text n h.records h.last (h.between ++ h.line ∷ h.after) (Ok end_record) f (end_again n h.last h.ended)
     ∙ ap (λ r. r >>= λ _. Ok (map_of (cells_of h.records))) (after_again (n + 1) h.between h.line h.after h.empty h.broken)
-    ∙ ap (λ (x : Line). Err (refusals.AfterEnd x)) (line_number _ _ (sym (h.place ∙ later_number (length h.before) (length h.between))))
-cause_again text refusals.Memory h = absurd h
+    ∙ ap (λ (x : Line). Err (refused.At x hex.AfterEnd)) (line_number _ _ (sym (h.place ∙ later_number (length h.before) (length h.between))))
 
 -- ---- What a reader returns
 
-some_or_memory : (total : Result ImageMap HexRefusal) (refusal : HexRefusal) → Fails refusal total → (refusal ≡ refusals.Memory) ⊎ (total ≡ Err refusal)
-some_or_memory total refusals.Memory h = inl refl
-some_or_memory total (refusals.BadRecord at) h = inr h
-some_or_memory total (refusals.BadSum at) h = inr h
-some_or_memory total (refusals.Overlap at) h = inr h
-some_or_memory total refusals.NoEnd h = inr h
-some_or_memory total (refusals.AfterEnd at) h = inr h
+answer_means : (text : List ℕ) (r : Result ImageMap HexRefusal) → IsAnswer text r → Answers (StandsFor text) (IsCause text) r
+answer_means text (Ok image) h = h
+answer_means text (Err (refused.At line kind)) h = h
+answer_means text (Err refused.Memory) h = tt
 
-pub given_image : (text : List ℕ) (r : Result ImageMap HexRefusal) → Gives (λ i. i) r (reading 1 maps.empty (lines text)) → IfOk r (λ image. StandsFor text image)
-given_image text (Ok image) h = subst (IsAnswer text) h (reading_answers text)
-given_image text (Err refusal) h = tt
+pub given_answer : (text : List ℕ) (r : Result ImageMap HexRefusal) → Gives (λ i. i) r (reading 1 maps.empty (lines text)) → Answers (StandsFor text) (IsCause text) r
+given_answer text (Ok image) h = answer_means text (Ok image) (subst (IsAnswer text) h (reading_answers text))
+given_answer text (Err (refused.At line kind)) h = answer_means text (Err (refused.At line kind)) (subst (IsAnswer text) h (reading_answers text))
+given_answer text (Err refused.Memory) h = tt
 
-pub given_refusal : (text : List ℕ) (r : Result ImageMap HexRefusal) → Gives (λ i. i) r (reading 1 maps.empty (lines text)) → IfErr r (λ refusal. (refusal ≡ refusals.Memory) ⊎ IsCause text refusal)
-given_refusal text (Ok image) h = tt
-given_refusal text (Err refusal) h = elim (some_or_memory (reading 1 maps.empty (lines text)) refusal h) [
-  | inl memory ↦ inl memory
-  | inr is ↦ inr (subst (IsAnswer text) is (reading_answers text))
-]
-
-pub gives_all : (r total other : Result ImageMap HexRefusal) → Gives (λ i. i) r total → total ≡ other → (r ≡ other) ⊎ (r ≡ Err refusals.Memory)
+gives_all : (r total other : Result ImageMap HexRefusal) → Gives (λ i. i) r total → total ≡ other → IsUnlessMemory r other
 gives_all (Ok image) total other h is = inl (sym h ∙ is)
-gives_all (Err refusal) total other h is = elim (some_or_memory total refusal h) [
-  | inl memory ↦ inr (ap (λ (e : HexRefusal). Err e) memory)
-  | inr found ↦ inl (sym found ∙ is)
-]
+gives_all (Err (refused.At line kind)) total other h is = inl (sym h ∙ is)
+gives_all (Err refused.Memory) total other h is = inr refl
+
+pub given_whole : (text : List ℕ) (r : Result ImageMap HexRefusal) → Gives (λ i. i) r (reading 1 maps.empty (lines text)) → IsComplete (StandsFor text) (IsCause text) r
+given_whole text r h = record {
+  whole = λ image stands. gives_all r _ (Ok image) h (image_again text image stands);
+  exact = λ number kind cause. gives_all r _ (Err (at_line number kind)) h (cause_again text number kind cause);
+}
 
 -- ---- One answer
 
 answer_ok : (a b : ImageMap) → ◌≡◌ {A = Result ImageMap HexRefusal} (Ok a) (Ok b) → a ≡ b
 answer_ok a b e = cc
 
-answer_err : (a b : HexRefusal) → ◌≡◌ {A = Result ImageMap HexRefusal} (Err a) (Err b) → a ≡ b
-answer_err a b e = cc
+answer_at : (a b : Line) (k j : HexKind) → ◌≡◌ {A = Result ImageMap HexRefusal} (Err (refused.At a k)) (Err (refused.At b j)) → (a ≡ b) × (k ≡ j)
+answer_at a b k j e = (cc, cc)
 
 not_both : (a : ImageMap) (b : HexRefusal) → ◌≡◌ {A = Result ImageMap HexRefusal} (Ok a) (Err b) → ⊥
 not_both a b e = cc
@@ -329,15 +327,18 @@ not_both a b e = cc
 pub one_image : (t : List ℕ) (a b : ImageMap) → StandsFor t a → StandsFor t b → a ≡ b
 one_image t a b h k = answer_ok a b (sym (image_again t a h) ∙ image_again t b k)
 
-pub one_refusal : (t : List ℕ) (a b : HexRefusal) → IsCause t a → IsCause t b → a ≡ b
-one_refusal t a b h k = answer_err a b (sym (cause_again t a h) ∙ cause_again t b k)
+pub one_refusal : (t : List ℕ) (n m : ℕ) (k j : HexKind) → IsCause t n k → IsCause t m j → (n ≡ m) × (k ≡ j)
+one_refusal t n m k j h i =
+    let same = answer_at (record { 0 = n }) (record { 0 = m }) k j (sym (cause_again t n k h) ∙ cause_again t m j i) in
+    (ap (λ (x : Line). x.0) same.0, same.1)
 
-pub never_both : (t : List ℕ) (image : ImageMap) (refusal : HexRefusal) → StandsFor t image → ¬ (IsCause t refusal)
-never_both t image refusal h k = not_both image refusal (sym (image_again t image h) ∙ cause_again t refusal k)
+pub never_both : (t : List ℕ) (image : ImageMap) (number : ℕ) (kind : HexKind) → StandsFor t image → ¬ (IsCause t number kind)
+never_both t image number kind h k = not_both image (at_line number kind) (sym (image_again t image h) ∙ cause_again t number kind k)
 
-one_of : (t : List ℕ) (r : Result ImageMap HexRefusal) → IsAnswer t r → ((image : ImageMap) × StandsFor t image) ⊎ ((refusal : HexRefusal) × IsCause t refusal)
+one_of : (t : List ℕ) (r : Result ImageMap HexRefusal) → IsAnswer t r → ((image : ImageMap) × StandsFor t image) ⊎ ((number : ℕ) × (kind : HexKind) × IsCause t number kind)
 one_of t (Ok image) h = inl (image, h)
-one_of t (Err refusal) h = inr (refusal, h)
+one_of t (Err (refused.At line kind)) h = inr (line.0, kind, h)
+one_of t (Err refused.Memory) h = absurd h
 
-pub always_one : (t : List ℕ) → ((image : ImageMap) × StandsFor t image) ⊎ ((refusal : HexRefusal) × IsCause t refusal)
+pub always_one : (t : List ℕ) → ((image : ImageMap) × StandsFor t image) ⊎ ((number : ℕ) × (kind : HexKind) × IsCause t number kind)
 always_one t = one_of t (reading 1 maps.empty (lines t)) (reading_answers t)

@@ -1,8 +1,8 @@
 -- The text of an image stands for it, and what is cut from its end doesn't.
-use Rattle.std.proofs.Common.{◌≡◌, ℕ, zero, suc, ◌+◌, ◌-◌, ◌*◌, ◌/◌, ◌%◌, ◌<◌, ◌≤◌, false, T, eqb, List, [], ◌∷◌, ◌++◌, length, map, take, drop, get_or, sum, refl, sym, ap, subst, ◌∙◌, inl, inr, Some, None, All, arith, append_assoc, length-append}
+use Rattle.std.proofs.Common.{◌≡◌, ◌≢◌, ℕ, zero, suc, ◌+◌, ◌-◌, ◌*◌, ◌/◌, ◌%◌, ◌<◌, ◌≤◌, false, T, eqb, List, [], ◌∷◌, ◌++◌, length, map, take, drop, get_or, sum, refl, sym, ap, subst, ◌∙◌, inl, inr, Some, None, arith, append_assoc, length-append}
 use Rattle.std.specs.Prelude.{nat_eq, option_map}
 use Rattle.std.specs.List.{AllByRecursion, AllZip, IsDistinct, flat_map}
-use Rattle.std.specs.Str.Lines.{lines, strip_carriage_return}
+use Rattle.std.specs.Str.Lines.{strip_carriage_return}
 use Rattle.std.specs.Ordering.{nat_cmp, is_lt}
 use Rattle.std.specs.Cmp.{nat_cmp_total}
 use Rattle.std.specs.FinMap as maps
@@ -13,9 +13,10 @@ use Rattle.std.proofs.lemmas.Bool.{cases_lt, le-leb, lt-leb, lt-ltb, le-ltb, ne_
 use Rattle.std.proofs.lemmas.List.{take-append-le, length-take-le, length_push, take-append-drop}
 use Rattle.std.proofs.lemmas.List.Sums.{sum_by-append}
 use Rattle.std.proofs.lemmas.List.Elements.{All-from_recursion, All-head, All-tail}
+use Rattle.sp_base.specs.Lines.{line_of, rows_of, lines}
+use Rattle.sp_base.proofs.LineLemmas.{rows_of-feed, rows_of-last}
 use Rattle.sp_base.specs.Image.{ImageMap, IsInMemory, AreCells}
 use Rattle.sp_hex.specs.Hex.{fields, data_type, end_type, digit_value, byte_of, bytes_of, line_bytes, IsDataLine, IsEndLine, StandsFor, digit, two_digits, checksum_of, written_record, records_of, text}
-use Rattle.sp_hex.proofs.LineLaws.{is_feed, lines_cons, lines_one}
 use Rattle.sp_hex.proofs.RecordLaws.{AreBytes, then_some, map_some, chosen, some_is, not_none}
 use Rattle.sp_hex.proofs.RowLaws.{data_text, written_made}
 use Rattle.sp_base.proofs.FindLaws.{order_parts, less}
@@ -70,8 +71,9 @@ body kind address bytes = 58 ∷ flat_map two_digits (fields kind address bytes 
 body_plain : (kind address : ℕ) (bytes : List ℕ) → AllByRecursion Plain (body kind address bytes)
 body_plain kind address bytes = (omega arith, digits_plain (fields kind address bytes ++ checksum_of (fields kind address bytes) ∷ []))
 
-plain_feed : (line : List ℕ) → AllByRecursion Plain line → All (λ b. is_feed b ≡ false) line
-plain_feed line h k d lt = ne_eqb (get_or line k d) 10 (λ e. absurd (omega (arith, e, All-from_recursion Plain line h k d lt)))
+plain_feed : (line : List ℕ) → AllByRecursion Plain line → AllByRecursion (λ byte. byte ≢ 10) line
+plain_feed [] h = tt
+plain_feed (c ∷ line) h = (λ e. absurd (omega (arith, e, h.0)), plain_feed line h.1)
 
 strip_plain : (line : List ℕ) → AllByRecursion Plain line → strip_carriage_return line ≡ line
 strip_plain [] h = refl
@@ -81,7 +83,10 @@ strip_plain (c ∷ line) h =
     cond-false (eqb last 13) (take (length (c ∷ line) - 1) (c ∷ line)) (c ∷ line) (ne_eqb last 13 (λ e. absurd (omega (arith, e, plain))))
 
 line_ended : (line rest : List ℕ) → AllByRecursion Plain line → lines (line ++ 10 ∷ rest) ≡ line ∷ lines rest
-line_ended line rest h = lines_cons line rest (plain_feed line h) ∙ ap (λ (x : List ℕ). x ∷ lines rest) (strip_plain line h)
+line_ended line rest h = ap (map line_of) (rows_of-feed line rest (plain_feed line h)) ∙ ap (λ (x : List ℕ). x ∷ lines rest) (strip_plain line h)
+
+line_last : (line : List ℕ) → 0 < length line → AllByRecursion Plain line → lines line ≡ line ∷ []
+line_last line some h = ap (map line_of) (rows_of-last line some (plain_feed line h))
 
 line_first : (line rest : List ℕ) → AllByRecursion Plain line → lines ((line ++ 10 ∷ []) ++ rest) ≡ line ∷ lines rest
 line_first line rest h = ap lines (append_assoc line (10 ∷ []) rest) ∙ line_ended line rest h
@@ -220,7 +225,7 @@ stands image tail h one =
     }
 
 pub text_stands : (image : ImageMap) → IsInMemory image → StandsFor (text image) image
-unfolding text
+unfolding text rows_of
 text_stands image h = stands image (written_record end_type 0 []) h (line_ended (body end_type 0 []) [] (body_plain end_type 0 []))
 
 front_of : (xs : List ℕ) (y : ℕ) → take (length (xs ++ y ∷ []) - 1) (xs ++ y ∷ []) ≡ xs
@@ -235,7 +240,7 @@ text_unended image h =
     let end = body end_type 0 [] in
     let split : text image ≡ (front_text ++ end) ++ 10 ∷ [] = sym (append_assoc front_text end (10 ∷ [])) in
     let front : take (length (text image) - 1) (text image) ≡ front_text ++ end = ap (λ (t : List ℕ). take (length t - 1) t) split ∙ front_of (front_text ++ end) 10 in
-    subst (λ (t : List ℕ). StandsFor t image) (sym front) (stands image end h (lines_one end (omega arith) (plain_feed end (body_plain end_type 0 []))))
+    subst (λ (t : List ℕ). StandsFor t image) (sym front) (stands image end h (line_last end (omega arith) (body_plain end_type 0 [])))
 
 -- ---- What is cut
 
@@ -279,8 +284,9 @@ abbrev NoEnds : List (List ℕ) → Type 0
 NoEnds = AllByRecursion (λ line. ¬ (IsEndLine line))
 
 one_line : (line : List ℕ) → AllByRecursion Plain line → ¬ (IsEndLine line) → NoEnds (lines line)
+unfolding rows_of
 one_line [] h not_end = tt
-one_line (c ∷ line) h not_end = subst NoEnds (sym (lines_one (c ∷ line) (omega arith) (plain_feed (c ∷ line) h))) (not_end, tt)
+one_line (c ∷ line) h not_end = subst NoEnds (sym (line_last (c ∷ line) (omega arith) h)) (not_end, tt)
 
 abbrev end_text : List ℕ
 end_text = written_record end_type 0 []

@@ -1,7 +1,7 @@
 -- Intel HEX: the texts that stand for an image, and the text of an image as it is written.
 use Rattle.std.specs.Prelude.{◌≡◌, ◌⊎◌, ℕ, ◌+◌, ◌-◌, ◌*◌, ◌/◌, ◌%◌, ◌<◌, ◌≤◌, nat_le, nat_lt, nat_eq, ◌==◌, ◌&&◌, if◌then◌else◌, List, [], ◌∷◌, ◌++◌, length, map, sum, All, Option, Some, None, option_and_then, option_map, codes}
 use Rattle.std.specs.List.{flat_map, AllZip, IsDistinct, AllByRecursion}
-use Rattle.std.specs.Str.Lines.{lines}
+use Rattle.sp_base.specs.Lines.{lines}
 use Rattle.std.specs.FinMap as maps
 use Rattle.sp_base.specs.Image.{ImageMap}
 use Rattle.sp_base.specs.Cells.{Data, cells_of}

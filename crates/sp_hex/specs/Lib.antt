@@ -1,5 +1,4 @@
 pub mod Hex
 pub mod Load
-pub mod Reading
 pub mod Refusals
-pub mod Rows
+pub mod code

@@ -1,11 +1,16 @@
 -- Why a text stands for no image: the lowest line that breaks it, in the first way in which that line does.
 use Rattle.std.specs.Prelude.{◌≡◌, ◌≢◌, ℕ, ◌+◌, List, [], ◌∷◌, ◌++◌, length, All}
 use Rattle.std.specs.List.{AllZip}
-use Rattle.std.specs.Str.Lines.{lines}
+use Rattle.sp_base.specs.Lines.{lines}
 use Rattle.sp_base.specs.Cells.{Data}
-use Rattle.sp_hex.specs.declared.refusal.HexRefusal.{HexRefusal}
-use Rattle.sp_hex.specs.declared.refusal.HexRefusal.TheVariants as refusals
+use Rattle.sp_base.specs.declared.refused.Refused.{Refused}
+use Rattle.sp_hex.specs.declared.refusal.HexKind.{HexKind}
+use Rattle.sp_hex.specs.declared.refusal.HexKind.TheVariants as hex
 use Rattle.sp_hex.specs.Hex.{HasForm, HasSum, IsDataLine, IsEndLine, NoneTwice}
+
+-- a line that breaks a rule with how it does, or want of memory
+abbrev pub HexRefusal : Type 0
+HexRefusal = Refused HexKind
 
 -- the text has the line at this number, counted from 1; the lines before it are data records, and give no address twice
 pub record Reaches (text : List ℕ) (number : ℕ) (line : List ℕ) (records : List Data) : Type 0 where
@@ -56,17 +61,17 @@ pub record AfterEndAt (text : List ℕ) (number : ℕ) : Type 0 where
   pub empty : All (λ l. l ≡ []) between
   pub broken : line ≢ []
 
--- all lines are data records, and give no address twice
-pub record NoEndIn (text : List ℕ) : Type 0 where
+-- all lines are data records, and give no address twice; the number is 0, for the whole text
+pub record NoEndAt (text : List ℕ) (number : ℕ) : Type 0 where
   pub records : List Data
   pub each : AllZip IsDataLine (lines text) records
   pub apart : NoneTwice records
+  pub place : number ≡ 0
 
--- what a refusal says of the text; want of memory says nothing, and no text is a cause of it
-abbrev pub IsCause : List ℕ → HexRefusal → Type 0
-IsCause text (refusals.BadRecord line) = BadRecordAt text line.0
-IsCause text (refusals.BadSum line) = BadSumAt text line.0
-IsCause text (refusals.Overlap line) = OverlapAt text line.0
-IsCause text refusals.NoEnd = NoEndIn text
-IsCause text (refusals.AfterEnd line) = AfterEndAt text line.0
-IsCause text refusals.Memory = ⊥
+-- the text is wrong at the line with this number, in this way
+abbrev pub IsCause : List ℕ → ℕ → HexKind → Type 0
+IsCause text number hex.BadRecord = BadRecordAt text number
+IsCause text number hex.BadSum = BadSumAt text number
+IsCause text number hex.Overlap = OverlapAt text number
+IsCause text number hex.AfterEnd = AfterEndAt text number
+IsCause text number hex.NoEnd = NoEndAt text number

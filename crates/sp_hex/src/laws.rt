@@ -4,7 +4,7 @@ ghost use Rattle.std.specs.Prelude.{◌≡◌, ◌⊎◌, ℕ, ◌+◌, ◌-◌,
 ghost use Rattle.std.specs.FinMap as maps;
 ghost use Rattle.sp_base.specs.Image.{ImageMap, IsInMemory};
 ghost use Rattle.sp_base.specs.Cells.{Data};
-ghost use Rattle.sp_hex.specs.declared.refusal.HexRefusal.{HexRefusal};
+ghost use Rattle.sp_hex.specs.declared.refusal.HexKind.{HexKind};
 ghost use Rattle.sp_hex.specs.Hex.{StandsFor, AreWritten, records_of, text};
 ghost use Rattle.sp_hex.specs.Load.{IsLoaded};
 ghost use Rattle.sp_hex.specs.Refusals.{IsCause};
@@ -13,9 +13,9 @@ ghost use Rattle.sp_isa.specs.Core.{Core};
 /// A text stands for one image, or one refusal has its cause in it, and never both.
 pub fn one_answer()
     ensures image { (t : List ℕ) (a b : ImageMap) → StandsFor t a → StandsFor t b → a ≡ b }
-    ensures refusal { (t : List ℕ) (a b : HexRefusal) → IsCause t a → IsCause t b → a ≡ b }
-    ensures apart { (t : List ℕ) (image : ImageMap) (refusal : HexRefusal) → StandsFor t image → ¬ (IsCause t refusal) }
-    ensures some { (t : List ℕ) → ((image : ImageMap) × StandsFor t image) ⊎ ((refusal : HexRefusal) × IsCause t refusal) }
+    ensures refusal { (t : List ℕ) (n m : ℕ) (k j : HexKind) → IsCause t n k → IsCause t m j → (n ≡ m) × (k ≡ j) }
+    ensures apart { (t : List ℕ) (image : ImageMap) (n : ℕ) (k : HexKind) → StandsFor t image → ¬ (IsCause t n k) }
+    ensures some { (t : List ℕ) → ((image : ImageMap) × StandsFor t image) ⊎ ((n : ℕ) × (k : HexKind) × IsCause t n k) }
 {}
 
 /// The records of an image are those in the one form in which they are written.

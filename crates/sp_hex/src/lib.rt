@@ -3,7 +3,6 @@
 #![tactic(auto)]
 
 mod laws;
-mod lines;
 mod loading;
 mod reading;
 mod record;
@@ -13,8 +12,5 @@ mod writing;
 pub use laws::{one_answer, one_loading, written_form, written_text};
 pub use loading::load;
 pub use reading::read;
-pub use refusal::HexRefusal;
+pub use refusal::{HexKind, HexRefusal};
 pub use writing::{two_digits, write};
-
-#[cfg(test)]
-mod tests;

@@ -1,18 +1,17 @@
-ghost use Rattle.std.specs.Prelude.{◌≡◌, ◌⊎◌, ◌+◌, ◌<◌, ◌≤◌, ◌^◌, length, IfOk, IfErr, option_map};
+ghost use Rattle.std.specs.Prelude.{◌≡◌, ◌+◌, ◌<◌, ◌≤◌, ◌^◌, length, IfOk, option_map};
 ghost use Rattle.std.specs.FinMap as maps;
-ghost use Rattle.std.specs.Str.Lines.{lines};
-ghost use Rattle.sp_base.specs.Image.{ImageMap};
 ghost use Rattle.sp_base.specs.Cells.{IsPlaced, placed};
-ghost use Rattle.sp_hex.specs.declared.refusal.HexRefusal.{HexRefusal};
-ghost use Rattle.sp_hex.specs.Hex.{digit_value, byte_of, bytes_of, StandsFor};
+ghost use Rattle.sp_base.specs.Limits.{text_limit};
+ghost use Rattle.sp_base.specs.Lines.{lines};
+ghost use Rattle.sp_base.specs.Refused.{Answers, IsComplete};
+ghost use Rattle.sp_hex.specs.Hex.{digit_value, byte_of, bytes_of, line_bytes, StandsFor};
 ghost use Rattle.sp_hex.specs.Refusals.{IsCause};
-ghost use Rattle.sp_hex.specs.Reading.{byte_at, Gives, content, content_of, record_at, empty_from, reading};
+ghost use Rattle.sp_hex.specs.code.Reading.{byte_at, Spells, Gives, content, content_of, held_at, empty_from, reading};
 
-use crate::lines::first_line;
 use crate::record::{DATA, END, Record, low_sum};
-use crate::refusal::HexRefusal;
-use sp_base::{Image, Line, Memory};
-use std::alloc::{AllocError, Global};
+use crate::refusal::{HexKind, HexRefusal};
+use sp_base::{Image, Line, Memory, Refused, first_row};
+use std::alloc::Global;
 
 fn digit_value(digit: u8) -> Option<u8>
     ensures { result ≡ digit_value digit }
@@ -32,8 +31,8 @@ fn byte_of(high: u8, low: u8) -> Option<u8>
     Some(16 * digit_value(high)? + digit_value(low)?)
 }
 
-/// The byte that the first two digits spell, and the digits behind them.
-#[tactic(auto, unfolding(crate::specs::Reading::byte_at))]
+/// The byte that the first two digits spell, and the digits after them.
+#[tactic(auto, unfolding(crate::specs::code::Reading::byte_at))]
 fn byte_at(digits: &[u8]) -> Option<(u8, &[u8])>
     ensures { option_map (λ found. (found.0, found.1.now)) result ≡ byte_at digits.now }
 {
@@ -46,11 +45,11 @@ fn byte_at(digits: &[u8]) -> Option<(u8, &[u8])>
     }
 }
 
-/// The bytes that digits spell.
-fn bytes_of(alloc: Global, digits: &[u8]) -> Result<Option<Vec<u8>>, AllocError>
-    ensures { IfOk result (λ found. option_map (λ v. v.items) found ≡ bytes_of digits.now) }
+/// Puts the bytes that digits spell into `bytes`, which loses what it held, and says whether they are whole bytes.
+fn spell(bytes: &mut Vec<u8>, digits: &[u8]) -> Result<bool, Memory>
+    ensures { IfOk result (λ whole. Spells whole bytes.new.items (bytes_of digits.now)) }
 {
-    let mut bytes = Vec::with_capacity(alloc, digits.len() / 2)?;
+    bytes.clear();
     let mut rest = digits;
     while !rest.is_empty() {
         match byte_at(rest) {
@@ -58,50 +57,56 @@ fn bytes_of(alloc: Global, digits: &[u8]) -> Result<Option<Vec<u8>>, AllocError>
                 bytes.push(byte)?;
                 rest = after;
             }
-            None => return Ok(None),
+            None => return Ok(false),
         }
     }
-    Ok(Some(bytes))
+    Ok(true)
+}
+
+/// The same of a line: a colon, and digits.
+fn spell_line(bytes: &mut Vec<u8>, line: &[u8]) -> Result<bool, Memory>
+    ensures { IfOk result (λ whole. Spells whole bytes.new.items (line_bytes line.now)) }
+{
+    match line {
+        [b':', digits @ ..] => spell(bytes, digits),
+        _ => Ok(false),
+    }
 }
 
 /// What the bytes of a record hold, if they have a record's form.
-#[tactic(auto, unfolding(crate::specs::Reading::content_of))]
-fn content_of(alloc: Global, bytes: &[u8]) -> Result<Option<Record>, AllocError>
-    ensures { IfOk result (λ found. option_map content found ≡ content_of bytes.now) }
+#[tactic(auto, unfolding(crate::specs::code::Reading::content_of))]
+fn content_of(bytes: &[u8]) -> Option<Record<'_>>
+    ensures { option_map content result ≡ content_of bytes.now }
 {
     let [len, high, low, kind, held @ .., _] = bytes else {
-        return Ok(None);
+        return None;
     };
     if usize::from(*len) != held.len() {
-        return Ok(None);
+        return None;
     }
     let address = 256 * u16::from(*high) + u16::from(*low);
     if *kind == DATA && usize::from(address) + held.len() <= 65536 {
-        let bytes = Vec::from_slice(alloc, held)?;
-        return Ok(Some(Record::Data { address, bytes }));
+        return Some(Record::Data {
+            address,
+            bytes: held,
+        });
     }
     if *kind == END && held.is_empty() {
-        return Ok(Some(Record::End));
+        return Some(Record::End);
     }
-    Ok(None)
+    None
 }
 
-/// What a line holds.
-#[tactic(auto, unfolding(crate::specs::Reading::record_at))]
-fn record_at(alloc: Global, line: &[u8], number: u32) -> Result<Record, HexRefusal>
-    ensures { Gives content result (record_at number line.now) }
+/// What these bytes of a line hold.
+#[tactic(auto, unfolding(crate::specs::code::Reading::held_at))]
+fn held_at(bytes: &[u8], number: u32) -> Result<Record<'_>, HexRefusal>
+    ensures { Gives content result (held_at number bytes.now) }
 {
-    let [b':', digits @ ..] = line else {
-        return Err(HexRefusal::BadRecord(Line(number)));
+    let Some(record) = content_of(bytes) else {
+        return Err(Refused::At(Line(number), HexKind::BadRecord));
     };
-    let Some(bytes) = bytes_of(alloc, digits)? else {
-        return Err(HexRefusal::BadRecord(Line(number)));
-    };
-    let Some(record) = content_of(alloc, &bytes)? else {
-        return Err(HexRefusal::BadRecord(Line(number)));
-    };
-    if low_sum(&bytes) != 0 {
-        return Err(HexRefusal::BadSum(Line(number)));
+    if low_sum(bytes) != 0 {
+        return Err(Refused::At(Line(number), HexKind::BadSum));
     }
     Ok(record)
 }
@@ -114,11 +119,14 @@ fn only_empty(text: &[u8], number: u32) -> Result<(), HexRefusal>
     let mut number = number;
     let mut rest = text;
     while !rest.is_empty() {
-        let cut = first_line(rest);
-        if !cut.line.is_empty() {
-            return Err(HexRefusal::AfterEnd(Line(number)));
+        let row = first_row(rest);
+        let line = row.line();
+        let size = row.size();
+        if !line.is_empty() {
+            return Err(Refused::At(Line(number), HexKind::AfterEnd));
         }
-        rest = cut.rest;
+        let (_, after) = rest.split_at(size);
+        rest = after;
         number += 1;
     }
     Ok(())
@@ -126,41 +134,46 @@ fn only_empty(text: &[u8], number: u32) -> Result<(), HexRefusal>
 
 /// The image that a text stands for, line by line.
 fn read_lines(alloc: Global, text: &[u8]) -> Result<Image, HexRefusal>
-    requires { length text.now < 4294967295 }
+    requires { length text.now < text_limit }
     ensures { Gives (λ image. image) result (reading 1 maps.empty (lines text.now)) }
 {
     let mut image = Image::new(alloc);
+    let mut bytes = Vec::new(alloc);
     let mut number = 1u32;
     let mut rest = text;
     while !rest.is_empty() {
-        let cut = first_line(rest);
-        match record_at(alloc, cut.line, number)? {
+        let row = first_row(rest);
+        let line = row.line();
+        let size = row.size();
+        let (_, after) = rest.split_at(size);
+        if !spell_line(&mut bytes, line)? {
+            return Err(Refused::At(Line(number), HexKind::BadRecord));
+        }
+        match held_at(&bytes, number)? {
             Record::Data { address, bytes } => {
-                if !image.place(address, &bytes)? {
-                    return Err(HexRefusal::Overlap(Line(number)));
+                if !image.place(address, bytes)? {
+                    return Err(Refused::At(Line(number), HexKind::Overlap));
                 }
             }
             Record::End => {
-                only_empty(cut.rest, number + 1)?;
+                only_empty(after, number + 1)?;
                 return Ok(image);
             }
         }
-        rest = cut.rest;
+        rest = after;
         number += 1;
     }
-    Err(HexRefusal::NoEnd)
+    Err(Refused::At(Line(0), HexKind::NoEnd))
 }
 
 /// The image that a text stands for. Lines end in LF or CRLF, the last one may have no end, and digits may be
 /// of either case. A refusal names the lowest line that is wrong, and the first of BadRecord, BadSum, Overlap and
-/// AfterEnd that it is; NoEnd comes after all lines.
+/// AfterEnd that it is; NoEnd, of line 0, comes after all lines. `":00000001FF"` stands for the empty image.
 pub fn read(alloc: Global, text: &[u8]) -> Result<Image, HexRefusal>
-    requires { length text.now < 4294967295 }
-    ensures ok { IfOk result (λ image. StandsFor text.now image) }
-    ensures err { IfErr result (λ refusal. (refusal ≡ HexRefusal.Memory) ⊎ IsCause text.now refusal) }
+    requires { length text.now < text_limit }
+    ensures says { Answers (StandsFor text.now) (IsCause text.now) result }
     // Each text that stands for an image is read, and each refusal that has its cause is given.
-    ensures whole { (image : ImageMap) → StandsFor text.now image → (result ≡ Ok image) ⊎ (result ≡ Err HexRefusal.Memory) }
-    ensures exact { (refusal : HexRefusal) → IsCause text.now refusal → (result ≡ Err refusal) ⊎ (result ≡ Err HexRefusal.Memory) }
+    ensures complete { IsComplete (StandsFor text.now) (IsCause text.now) result }
 {
     read_lines(alloc, text)
 }

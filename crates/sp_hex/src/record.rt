@@ -6,10 +6,10 @@ pub const DATA: u8 = 0;
 /// The type of the end record.
 pub const END: u8 = 1;
 
-/// What a line holds.
-#[derive(Debug, Drop)]
-pub enum Record {
-    Data { address: u16, bytes: Vec<u8> },
+/// What the bytes of a line hold.
+#[derive(Clone, Copy, Debug)]
+pub enum Record<'a> {
+    Data { address: u16, bytes: &'a [u8] },
     End,
 }
 

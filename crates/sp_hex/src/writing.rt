@@ -2,7 +2,7 @@ ghost use Rattle.std.specs.Prelude.{◌≡◌, ◌<◌, ◌++◌, length, IfOk, 
 ghost use Rattle.std.specs.FinMap as maps;
 ghost use Rattle.std.specs.List.{flat_map};
 ghost use Rattle.sp_hex.specs.Hex.{digit, two_digits, checksum_of, written_record, text};
-ghost use Rattle.sp_hex.specs.Rows.{IsRow};
+ghost use Rattle.sp_hex.specs.code.Rows.{IsRow};
 
 use crate::record::{DATA, END, low_sum};
 use sp_base::{Image, Memory};

@@ -1,6 +1,6 @@
 use Rattle.std.proofs.Common.{◌≡◌, ◌+◌, ◌≤◌, length}
-use Rattle.std.specs.Str.Lines.{lines}
-use Rattle.sp_hex.specs.Reading.{empty_from}
+use Rattle.sp_base.specs.Lines.{lines}
+use Rattle.sp_hex.specs.code.Reading.{empty_from}
 use Rattle.sp_hex.proofs.reading.only_empty.Given as goal
 
 abbrev pub invariant-loop-rest : goal.invariant-loop-rest

@@ -1,7 +1,7 @@
 use Rattle.std.proofs.Common.{◌≡◌, ◌+◌, ◌≤◌, length}
 use Rattle.std.specs.FinMap as maps
-use Rattle.std.specs.Str.Lines.{lines}
-use Rattle.sp_hex.specs.Reading.{reading}
+use Rattle.sp_base.specs.Lines.{lines}
+use Rattle.sp_hex.specs.code.Reading.{reading}
 use Rattle.sp_hex.proofs.reading.read_lines.Given as goal
 
 abbrev pub invariant-loop-rest : goal.invariant-loop-rest

@@ -1,6 +1,6 @@
 use Rattle.std.proofs.Common.{◌≡◌, ◌+◌, length, Some, ◌++◌, ◌∷◌, [], List, ℕ, sym, ap, subst, ◌∙◌, arith}
 use Rattle.std.specs.FinMap as maps
-use Rattle.sp_hex.specs.Rows.{AreNext}
+use Rattle.sp_hex.specs.code.Rows.{AreNext}
 use Rattle.sp_hex.proofs.RowLaws.{AreNext-first, AreNext-push}
 use Rattle.sp_hex.proofs.writing.row_at.Goals as goal
 

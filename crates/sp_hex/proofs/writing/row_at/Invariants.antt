@@ -1,5 +1,5 @@
 use Rattle.std.proofs.Common.{◌-◌, vec_len}
-use Rattle.sp_hex.specs.Rows.{AreNext}
+use Rattle.sp_hex.specs.code.Rows.{AreNext}
 use Rattle.sp_hex.proofs.writing.row_at.Given as goal
 
 abbrev pub invariant-loop-bytes : goal.invariant-loop-bytes

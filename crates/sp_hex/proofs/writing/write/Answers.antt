@@ -1,6 +1,6 @@
 use Rattle.std.proofs.Common.{◌++◌, List, ℕ, ap, ◌∙◌, arith}
 use Rattle.sp_hex.specs.Hex.{records_of, written_record, data_type}
-use Rattle.sp_hex.specs.Rows.{rising}
+use Rattle.sp_hex.specs.code.Rows.{rising}
 use Rattle.sp_hex.proofs.RowLaws.{data_text, rising_zero, rising_to, write_step, write_end}
 use Rattle.sp_hex.proofs.writing.write.Goals as goal
 

@@ -1,7 +1,7 @@
 use Rattle.std.proofs.Common.{◌≡◌, ◌-◌, ◌≤◌, ◌++◌}
 use Rattle.std.specs.FinMap as maps
 use Rattle.sp_hex.specs.Hex.{records_of}
-use Rattle.sp_hex.specs.Rows.{rising}
+use Rattle.sp_hex.specs.code.Rows.{rising}
 use Rattle.sp_hex.proofs.RowLaws.{data_text}
 use Rattle.sp_hex.proofs.writing.write.Given as goal
 

@@ -1,9 +1,10 @@
 -- Reading a text line by line, with the first refusal that is met. No public contract cites this.
-use Rattle.std.specs.Prelude.{◌≡◌, ℕ, ◌+◌, ◌*◌, ◌%◌, nat_le, ◌==◌, ◌&&◌, if◌then◌else◌, List, [], ◌∷◌, length, take, sum, Option, Some, None, option_map, Result, Ok, Err}
+use Rattle.std.specs.Prelude.{◌≡◌, ℕ, ◌+◌, ◌*◌, ◌%◌, Bool, true, false, nat_le, ◌==◌, ◌&&◌, if◌then◌else◌, List, [], ◌∷◌, length, take, sum, Option, Some, None, option_map, Result, Ok, Err}
 use Rattle.sp_base.specs.Image.{ImageMap}
 use Rattle.sp_base.specs.Cells.{Data, placed}
-use Rattle.sp_hex.specs.declared.refusal.HexRefusal.{HexRefusal}
-use Rattle.sp_hex.specs.declared.refusal.HexRefusal.TheVariants as refusals
+use Rattle.sp_base.specs.declared.refused.Refused.TheVariants as refused
+use Rattle.sp_hex.specs.declared.refusal.HexKind.TheVariants as hex
+use Rattle.sp_hex.specs.Refusals.{HexRefusal}
 use Rattle.sp_hex.specs.declared.record.Record.{Record}
 use Rattle.sp_hex.specs.declared.record.Record.TheVariants as records
 use Rattle.sp_hex.specs.Hex.{byte_of, line_bytes, data_type, end_type}
@@ -14,7 +15,7 @@ pub data Content : Type 0 where
   end_record : Content
 
 abbrev pub content : Record → Content
-content (records.Data address bytes) = data_record (record { address = address; bytes = bytes.items })
+content (records.Data address bytes) = data_record (record { address = address; bytes = bytes.now })
 content records.End = end_record
 
 infixl 10 ◌>>=◌
@@ -24,12 +25,8 @@ abbrev pub ◌>>=◌ : {A B : Type 0} → Result A HexRefusal → (A → Result 
 
 -- what a function returned, seen by view, is what reading gives, unless memory ran out
 abbrev pub Fails : {Y : Type 0} → HexRefusal → Result Y HexRefusal → Type 0
-Fails refusals.Memory read = Unit {0}
-Fails (refusals.BadRecord line) read = read ≡ Err (refusals.BadRecord line)
-Fails (refusals.BadSum line) read = read ≡ Err (refusals.BadSum line)
-Fails (refusals.Overlap line) read = read ≡ Err (refusals.Overlap line)
-Fails refusals.NoEnd read = read ≡ Err refusals.NoEnd
-Fails (refusals.AfterEnd line) read = read ≡ Err (refusals.AfterEnd line)
+Fails refused.Memory read = Unit {0}
+Fails (refused.At line kind) read = read ≡ Err (refused.At line kind)
 
 abbrev pub Gives : {X Y : Type 0} → (X → Y) → Result X HexRefusal → Result Y HexRefusal → Type 0
 Gives view (Ok x) read = read ≡ Ok (view x)
@@ -54,26 +51,34 @@ content_of (len ∷ high ∷ low ∷ kind ∷ b ∷ rest) = content_with len (25
 content_of _ = None
 
 abbrev pub with_sum : ℕ → List ℕ → Content → Result Content HexRefusal
-with_sum number bytes held = if sum bytes % 256 == 0 then Ok held else Err (refusals.BadSum (record { 0 = number }))
+with_sum number bytes held = if sum bytes % 256 == 0 then Ok held else Err (refused.At (record { 0 = number }) hex.BadSum)
 
 abbrev pub or_bad_record : {A : Type 0} → ℕ → Option A → Result A HexRefusal
-or_bad_record number None = Err (refusals.BadRecord (record { 0 = number }))
+or_bad_record number None = Err (refused.At (record { 0 = number }) hex.BadRecord)
 or_bad_record number (Some x) = Ok x
+
+-- what these bytes of the line with this number hold
+unfoldable pub held_at : ℕ → List ℕ → Result Content HexRefusal
+held_at number bytes = do
+  held ← or_bad_record number (content_of bytes)
+  with_sum number bytes held
 
 -- what the line with this number holds
 unfoldable pub record_at : ℕ → List ℕ → Result Content HexRefusal
-record_at number line = do
-  bytes ← or_bad_record number (line_bytes line)
-  held ← or_bad_record number (content_of bytes)
-  with_sum number bytes held
+record_at number line = or_bad_record number (line_bytes line) >>= held_at number
+
+-- whether digits spell bytes, and these bytes
+abbrev pub Spells : Bool → List ℕ → Option (List ℕ) → Type 0
+Spells true bytes read = read ≡ Some bytes
+Spells false bytes read = read ≡ None
 
 -- the lines from this number on are empty
 unfoldable pub empty_from : ℕ → List (List ℕ) → Result (Unit {0}) HexRefusal
 empty_from number [] = Ok tt
-empty_from number (line ∷ more) = if length line == 0 then empty_from (number + 1) more else Err (refusals.AfterEnd (record { 0 = number }))
+empty_from number (line ∷ more) = if length line == 0 then empty_from (number + 1) more else Err (refused.At (record { 0 = number }) hex.AfterEnd)
 
 abbrev pub or_overlap : ℕ → Option ImageMap → Result ImageMap HexRefusal
-or_overlap number None = Err (refusals.Overlap (record { 0 = number }))
+or_overlap number None = Err (refused.At (record { 0 = number }) hex.Overlap)
 or_overlap number (Some image) = Ok image
 
 -- what comes of a text, from what the line with this number holds, what comes of the lines behind a data record, and whether those are empty
@@ -83,6 +88,6 @@ after_record number image go_on ended end_record = ended >>= λ _. Ok image
 
 -- what comes of the lines from this number on, with the image so far
 unfoldable pub reading : ℕ → ImageMap → List (List ℕ) → Result ImageMap HexRefusal
-reading number image [] = Err refusals.NoEnd
+reading number image [] = Err (refused.At (record { 0 = 0 }) hex.NoEnd)
 reading number image (line ∷ more) =
     record_at number line >>= after_record number image (λ i. reading (number + 1) i more) (empty_from (number + 1) more)

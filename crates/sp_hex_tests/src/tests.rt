@@ -1,7 +1,7 @@
 ghost use Rattle.std.specs.Prelude.{◌<◌, length};
 
-use crate::{HexRefusal, load, read, write};
-use sp_base::{Image, Line, Loc, Memory, Reg};
+use sp_base::{Image, Line, Loc, Memory, Refused, Reg};
+use sp_hex::{HexKind, load, read, write};
 use sp_machine::Machine;
 use std::alloc::Global;
 use std::process::Abort;
@@ -131,34 +131,34 @@ static NO_RECORDS: [&str; 21] = [
     ":0000000G\n:0100000008F8",
 ];
 
-/// Texts with their refusals.
-static REFUSED: [(&str, HexRefusal); 13] = [
-    ("", HexRefusal::NoEnd),
-    (":0100000008F7", HexRefusal::NoEnd),
-    (":0100000008F7\n", HexRefusal::NoEnd),
-    (":0100000008F8", HexRefusal::BadSum(Line(1))),
-    (":00000001FE", HexRefusal::BadSum(Line(1))),
-    (":0100000008F8\nx", HexRefusal::BadSum(Line(1))),
-    (":0100000008F7\n:0100000008F8", HexRefusal::BadSum(Line(2))),
+/// Texts with the lines at which they are refused, and how.
+static REFUSED: [(&str, u32, HexKind); 13] = [
+    ("", 0, HexKind::NoEnd),
+    (":0100000008F7", 0, HexKind::NoEnd),
+    (":0100000008F7\n", 0, HexKind::NoEnd),
+    (":0100000008F8", 1, HexKind::BadSum),
+    (":00000001FE", 1, HexKind::BadSum),
+    (":0100000008F8\nx", 1, HexKind::BadSum),
+    (":0100000008F7\n:0100000008F8", 2, HexKind::BadSum),
     (
         ":0100000008F7\n:0100000008F7\n:00000001FF",
-        HexRefusal::Overlap(Line(2)),
+        2,
+        HexKind::Overlap,
     ),
-    (
-        ":0100010008F6\r\n:020000000708EF\r\nx",
-        HexRefusal::Overlap(Line(2)),
-    ),
-    (":00000001FF\nx", HexRefusal::AfterEnd(Line(2))),
-    (":00000001FF\n \n", HexRefusal::AfterEnd(Line(2))),
-    (":00000001FF\n\n:00000001FF", HexRefusal::AfterEnd(Line(3))),
+    (":0100010008F6\r\n:020000000708EF\r\nx", 2, HexKind::Overlap),
+    (":00000001FF\nx", 2, HexKind::AfterEnd),
+    (":00000001FF\n \n", 2, HexKind::AfterEnd),
+    (":00000001FF\n\n:00000001FF", 3, HexKind::AfterEnd),
     (
         ":0100000008F7\n:00000001FF\n:0100000008F7\n:00000001FF\n",
-        HexRefusal::AfterEnd(Line(3)),
+        3,
+        HexKind::AfterEnd,
     ),
 ];
 
-fn check_refused(rt: &impl Abort, alloc: Global, text: &str, refusal: HexRefusal) {
+fn check_refused(rt: &impl Abort, alloc: Global, text: &str, line: u32, kind: HexKind) {
     assert!(rt; text.len() < 10_000);
+    let refusal = Refused::At(Line(line), kind);
     assert_eq!(rt; read(alloc, text.as_bytes()).err(), Some(refusal), "{text}");
 }
 
@@ -166,10 +166,10 @@ fn check_refused(rt: &impl Abort, alloc: Global, text: &str, refusal: HexRefusal
 fn a_text_is_refused_at_its_lowest_line(rt: HostRuntime) {
     let alloc = rt.alloc();
     for text in &NO_RECORDS {
-        check_refused(&rt, alloc, text, HexRefusal::BadRecord(Line(1)));
+        check_refused(&rt, alloc, text, 1, HexKind::BadRecord);
     }
-    for (text, refusal) in &REFUSED {
-        check_refused(&rt, alloc, text, *refusal);
+    for (text, line, kind) in &REFUSED {
+        check_refused(&rt, alloc, text, *line, *kind);
     }
 }
 
@@ -260,7 +260,7 @@ fn changed_cells(machine: &Machine) -> u32 {
 }
 
 /// Images as runs, and the bytes that stand at addresses once the image is loaded. No byte of an image is E5H.
-const LOADED: [(&[(u16, &[u8])], u32, &[(u16, u8)]); 6] = [
+static LOADED: [(&[(u16, &[u8])], u32, &[(u16, u8)]); 6] = [
     (&[], 0, &[(0, 0xE5), (0xFFFF, 0xE5)]),
     (&[(0, &[0])], 1, &[(0, 0), (1, 0xE5), (0xFFFF, 0xE5)]),
     (&[(0xFFFF, &[0xC9])], 1, &[(0xFFFF, 0xC9), (0, 0xE5)]),
@@ -298,14 +298,14 @@ const LOADED: [(&[(u16, &[u8])], u32, &[(u16, u8)]); 6] = [
 #[test]
 fn an_image_is_loaded(rt: HostRuntime) -> Result<(), Fail> {
     let alloc = rt.alloc();
-    for (runs, changed, cells) in LOADED {
+    for (runs, changed, cells) in &LOADED {
         let image = image_of(alloc, runs)?;
         let mut machine = used_machine(alloc)?;
         // The second time changes nothing.
         for _ in 0..2 {
             load(&image, &mut machine);
-            assert_eq!(rt; changed_cells(&machine), changed);
-            for (a, byte) in cells {
+            assert_eq!(rt; changed_cells(&machine), *changed);
+            for (a, byte) in *cells {
                 assert_eq!(rt; machine.cell(*a), *byte, "{a}");
             }
             assert!(rt; is_used(&machine));

@@ -1,6 +1,6 @@
 use Rattle.std.proofs.Common.{◌≡◌, length}
 use Rattle.sp_hex.specs.Hex.{bytes_of}
-use Rattle.sp_hex.proofs.reading.bytes_of.Given as goal
+use Rattle.sp_hex.proofs.reading.spell.Given as goal
 use Rattle.sp_hex.proofs.DigitLaws.{with_front}
 
 abbrev pub invariant-loop-rest : goal.invariant-loop-rest
