@@ -34,7 +34,8 @@ of-place loc.Ac = refl
 of-place loc.P = refl
 of-place loc.Cy = refl
 
-same_place : (x y : Loc) → place x ≡ place y → x ≡ y
+-- locations of one place are one
+pub same_place : (x y : Loc) → place x ≡ place y → x ≡ y
 same_place x y e = sym (of-place x) ∙ ap of_place e ∙ of-place y
 
 only_this : (x y : Loc) → IsTrue (has y (only x)) → y ≡ x
