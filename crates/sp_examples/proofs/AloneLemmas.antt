@@ -8,9 +8,9 @@ use Rattle.sp_isa.specs.declared.instr.Instr.TheVariants.{Ret}
 use Rattle.sp_isa.specs.Core.{Core, at, cell, word, with_sp, with_pc}
 use Rattle.sp_isa.specs.Stack.{ret}
 use Rattle.sp_model.specs.State.{State, IsState, next_instr, step, run}
-use Rattle.sp_model.specs.Unit.{Routine, Unit}
-use Rattle.sp_model.specs.Good.{Keeps, Loaded, IsEntry, IsInCode, IsGood, IsGoodAt, IsReturnStep, AllRunsAreGood, base}
-use Rattle.sp_examples.specs.Units.{alone}
+use Rattle.sp_model.specs.Unit.{Stmt, Routine, Unit}
+use Rattle.sp_model.specs.Good.{Keeps, Loaded, IsEntry, IsInCode, IsGood, IsGoodAt, IsReturnStep, HasReturned, AllRunsAreGood, base}
+use Rattle.sp_examples.specs.Units.{alone, unit_of}
 use Rattle.sp_examples.proofs.RunLemmas.{IsGoodFrom, ends, good_of}
 use Rattle.sp_examples.proofs.EntryLemmas.{placed, placed_is}
 use Rattle.sp_examples.proofs.GoodLemmas.{Says, AssertsHold, good_return, back, returned_from, return_step}
@@ -59,6 +59,38 @@ after_one r s v good entry stays is =
 -- and of the entry itself
 pub at_entry : (r : Routine) (s : State) → AllRunsAreGood (alone r) → IsEntry (alone r) r s → IsGoodAt (alone r) r s s
 at_entry r s good entry = good r (0, omega arith, refl) s entry 0 0 (omega arith) (λ k less. absurd (omega arith))
+
+-- ---- a routine of a larger program
+returned_in : (rs : List Routine) (r : Routine) (s t : State) → HasReturned (alone r) r s t → HasReturned (unit_of rs) r s t
+returned_in rs r s t h = record {
+  keeps = record { memory = h.keeps.memory; outputs = h.keeps.outputs };
+  post = h.post;
+  sp = h.sp;
+  pc = h.pc;
+  unlisted = h.unlisted;
+}
+
+good_in : (rs : List Routine) (r : Routine) (s t : State) → Contains rs r → IsGoodAt (alone r) r s t → IsGoodAt (unit_of rs) r s t
+good_in rs r s t there h = record {
+  keeps = record { memory = h.keeps.memory; outputs = h.keeps.outputs };
+  in_code = (
+    r,
+    there,
+    one_of (λ (q : Routine). (i : Stmt) → Contains q.code i → i.address ≡ t.core.pc → (i : Stmt) × Contains r.code i × (i.address ≡ t.core.pc)) r (λ i listed is. (i, listed, is))
+        h.in_code.0 h.in_code.1 h.in_code.2.0 h.in_code.2.1 h.in_code.2.2,
+  );
+  not_stuck = h.not_stuck;
+  asserts = h.asserts;
+  inputs = h.inputs;
+  returned = λ k. returned_in rs r s (step t) (h.returned (record { running = k.running; returns = k.returns; at_base = k.at_base }));
+}
+
+-- a routine that is good alone is good in a program that has its bytes
+pub wider : (rs : List Routine) (r : Routine) → Contains rs r → ((t : State) → Loaded (unit_of rs).image t → Loaded (alone r).image t) → AllRunsAreGood (alone r) → (s : State) → IsEntry (unit_of rs) r s → (n : ℕ) → IsGood (unit_of rs) r s n
+wider rs r there part good s entry n i within none =
+    good_in rs r s (run s i) there (good r (0, omega arith, refl) s
+    (record { state = entry.state; loaded = part s entry.loaded; begins = entry.begins; running = entry.running; pre = entry.pre; room = λ h. record { below = (entry.room h).below; above = (entry.room h).above } })
+    i i (omega arith) (λ k less h. none k less (record { running = h.running; returns = h.returns; at_base = h.at_base })))
 
 -- ---- registers and flags
 pub at_moved : (x : Loc) (core : Core) (sp pc : ℕ) (halted : Bool) (cells : List ℕ) → at x (record core { sp = sp; pc = pc; halted = halted; cells = cells }) ≡ at x core

@@ -1,5 +1,5 @@
 -- Entries: images written out, states at an address, and the given states.
-use Rattle.std.proofs.Common.{◌≡◌, ℕ, zero, suc, ◌+◌, ◌%◌, ◌<◌, ◌≤◌, Bool, true, false, cond, List, [], ◌∷◌, length, map, refl, sym, ap, subst, ◌∙◌, arith, rules, Option, Some, None, length-set, get_or-set_same, get_or-set_other, lit<}
+use Rattle.std.proofs.Common.{◌≡◌, ℕ, zero, suc, ◌+◌, ◌%◌, ◌<◌, ◌≤◌, Bool, true, false, cond, List, [], ◌∷◌, ◌++◌, length, map, refl, sym, ap, subst, ◌∙◌, arith, rules, Option, Some, None, length-set, get_or-set_same, get_or-set_other, lit<}
 use Rattle.std.proofs.lemmas.List.{length-replicate, get_or-replicate}
 use Rattle.std.specs.List.{AllByRecursion}
 use Rattle.std.specs.Prelude.{All, IsTrue, slice_index, slice_set, unwrap_or, nat_lt, nat_le}
@@ -124,6 +124,19 @@ found_high n (c ∷ cells) h a b is =
 
 pub high_image : (n : ℕ) (cells : List (ℕ × ℕ)) → is_sorted nat_cmp cells ≡ true → all_high n cells ≡ true → (a b : ℕ) → maps.get (maps.from_sorted {R = nat_cmp} cells) a ≡ Some b → n ≤ a
 high_image n cells sorted h a b is = found_high n cells h a b (sym (get_is cells sorted a) ∙ is)
+
+-- the first bytes of a longer list
+found_more : (xs ys : List (ℕ × ℕ)) (a b : ℕ) → find nat_cmp a xs ≡ Some b → find nat_cmp a (xs ++ ys) ≡ Some b
+found_more [] ys a b is = cc
+found_more (x ∷ xs) ys a b is =
+    elim (eq_by_cmp nat_cmp a x.0) as (λ t. cond t (Some x.1) (find nat_cmp a xs) ≡ Some b → cond t (Some x.1) (find nat_cmp a (xs ++ ys)) ≡ Some b) [
+      | true ↦ λ there. there
+      | false ↦ λ there. found_more xs ys a b there
+    ] is
+
+pub loaded_part : (xs ys : List (ℕ × ℕ)) (t : State) → is_sorted nat_cmp xs ≡ true → is_sorted nat_cmp (xs ++ ys) ≡ true → Loaded (maps.from_sorted (xs ++ ys)) t → Loaded (maps.from_sorted xs) t
+loaded_part xs ys t part whole loaded a byte there =
+    loaded a byte (get_is (xs ++ ys) whole a ∙ found_more xs ys a byte (sym (get_is xs part a) ∙ there))
 
 -- ---- a state at an address
 abbrev pub placed : State → ℕ → State

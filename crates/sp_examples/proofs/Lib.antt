@@ -1,4 +1,5 @@
 pub mod AloneLemmas
+pub mod CallLemmas
 pub mod EntryLemmas
 pub mod FarLemmas
 pub mod FlowLemmas
@@ -12,4 +13,5 @@ pub mod ReturnLemmas
 pub mod RunLemmas
 pub mod StoppedLemmas
 pub mod StoreLemmas
+pub mod WatchLemmas
 pub mod WriteLemmas

@@ -37,17 +37,17 @@ abbrev pub pushed : State → State
 pushed s = record s { core = record s.core { sp = (s.core.sp + 65534) % 65536; pc = 0x101; halted = false; cells = pushed_cells s.core } }
 
 -- the state after the POP
-abbrev popped : State → State
+abbrev pub popped : State → State
 popped s = record s { core = record s.core { pc = 0x102; halted = false; cells = pushed_cells s.core } }
 
-fetches_push : (s : State) → Loaded (maps.from_sorted cells) (placed s 0x100) → next_instr (placed s 0x100).core ≡ Some (Push stack.B, 1)
+pub fetches_push : (s : State) → Loaded (maps.from_sorted cells) (placed s 0x100) → next_instr (placed s 0x100).core ≡ Some (Push stack.B, 1)
 fetches_push s loaded = fetch cells (placed s 0x100) (Push stack.B) refl loaded refl refl
 
-pushes : (s : State) → Loaded (maps.from_sorted cells) (placed s 0x100) → step (placed s 0x100) ≡ pushed s
+pub pushes : (s : State) → Loaded (maps.from_sorted cells) (placed s 0x100) → step (placed s 0x100) ≡ pushed s
 unfolding effect advance with_pc push_pair push with_sp with_cell
 pushes s loaded = step_quiet (placed s 0x100) (Push stack.B) 1 refl (fetches_push s loaded) refl refl
 
-fetches_pop : (s : State) → Loaded (maps.from_sorted cells) (pushed s) → next_instr (pushed s).core ≡ Some (Pop stack.B, 1)
+pub fetches_pop : (s : State) → Loaded (maps.from_sorted cells) (pushed s) → next_instr (pushed s).core ≡ Some (Pop stack.B, 1)
 fetches_pop s loaded = fetch cells (pushed s) (Pop stack.B) refl loaded refl refl
 
 -- the two bytes on the stack
@@ -69,7 +69,7 @@ word_on s long room top =
     ap (λ x. x + 256 * cell ((s.core.sp + 65534) % 65536 + 1) (pushed s).core) (low_byte s long room top)
     ∙ ap (λ x. s.core.c + 256 * x) (high_byte s long room top)
 
-pops : (s : State) → IsState (placed s 0x100) → 2 ≤ s.core.sp → Loaded (maps.from_sorted cells) (pushed s) → step (pushed s) ≡ popped s
+pub pops : (s : State) → IsState (placed s 0x100) → 2 ≤ s.core.sp → Loaded (maps.from_sorted cells) (pushed s) → step (pushed s) ≡ popped s
 unfolding effect advance with_pc pop_pair top_to with_pair with_reg with_sp
 pops s state room loaded =
     let w : ℕ = word ((s.core.sp + 65534) % 65536) (pushed s).core in
@@ -199,7 +199,7 @@ word_good = all_alone (pushing 2 (pushed_word 1 ∷ [])) (λ s entry.
     same_word (s.core.sp + 65536 - 2 * 1) ((s.core.sp + 65534) % 65536) (pushed s).core there
     ∙ word_on s entry.state.core.memory (omega arith) top ∙ omega arith in
     good_run 2 (pushed_word 1 ∷ []) s (lit≤ tt)
-    (All-cons (Says (alone (pushing 2 (pushed_word 1 ∷ []))) (pushing 2 (pushed_word 1 ∷ [])) (placed s 0x100) (pushed s)) (pushed_word 1) [] (ap pos is) (All-nil _)) entry)
+    (All-cons (Says (alone (pushing 2 (pushed_word 1 ∷ []))) (pushing 2 (pushed_word 1 ∷ [])) (placed s 0x100) (pushed s)) (pushed_word 1) [] (ap pos is) (All-nil (Says (alone (pushing 2 (pushed_word 1 ∷ []))) (pushing 2 (pushed_word 1 ∷ [])) (placed s 0x100) (pushed s)))) entry)
 
 pub word_bad : ¬ AllRunsAreGood (alone (pushing 2 (pushed_word 2 ∷ [])))
 word_bad good =

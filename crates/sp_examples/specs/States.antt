@@ -41,6 +41,10 @@ ready cells pc sp = record {
 abbrev pub stopped : State → State
 stopped s = record s { core = record s.core { halted = true } }
 
+-- the state, at 101H
+abbrev pub elsewhere : State → State
+elsewhere s = record s { core = record s.core { pc = 0x101 } }
+
 -- the state with one byte still to come at the ports
 abbrev pub with_input : ℕ → State → State
 with_input byte s = record s { inputs = byte ∷ [] }
@@ -63,3 +67,11 @@ left a b sp pc port w s = record s {
 -- RET at 100H, and the word 1234H at 2380H
 abbrev pub end_cells : List (ℕ × ℕ)
 end_cells = (0x100, 0xC9) ∷ (0x2380, 0x34) ∷ (0x2381, 0x12) ∷ []
+
+-- the state with another value of A
+abbrev pub with_a : ℕ → State → State
+with_a a s = record s { core = record s.core { a = a } }
+
+-- the state, after one byte was put out to a port
+abbrev pub with_output : ℕ → ℕ → State → State
+with_output port byte s = record s { outputs = (port, byte) ∷ [] }

@@ -12,7 +12,8 @@ use Rattle.sp_isa.specs.declared.instr.Arg.TheVariants as arg
 use Rattle.sp_isa.specs.declared.instr.StackPair.TheVariants as stack
 use Rattle.sp_isa.specs.declared.instr.Instr.{Instr}
 use Rattle.sp_isa.specs.declared.instr.Instr.TheVariants.{Mvi, Sta, In, Out, Push, Pop, Ret, Hlt, Jmp, Call, Lxi, Nop}
-use Rattle.sp_model.specs.Note.{Note, Compare, Equal, Location, Pair, StackWord, Now, AtEntry, BC, Literal}
+use Rattle.sp_model.specs.Good.{HasReturned, IsEntry, IsGood, IsGoodAt, IsReturnStep}
+use Rattle.sp_model.specs.Note.{Note, Compare, Equal, Location, Pair, Cell, StackWord, Now, AtEntry, BC, Literal}
 use Rattle.sp_examples.specs.States.{ready}
 use Rattle.sp_model.specs.State.{State}
 use Rattle.sp_model.specs.Unit.{Area, Listed, Stmt, Routine, Unit}
@@ -24,6 +25,10 @@ nothing = record { locs = []; areas = [] }
 -- A = n
 abbrev pub a_is : ℕ → Note
 a_is n = Compare Equal (Location Now loc.A) (Literal n)
+
+-- mem[w] = 0
+abbrev pub cell_is_zero : ℕ → Note
+cell_is_zero w = Compare Equal (Cell Now (Literal w)) (Literal 0)
 
 -- STKk = BC~
 abbrev pub pushed_word : ℕ → Note
@@ -66,6 +71,18 @@ unit_of routines = record {
 -- a program of one routine
 abbrev pub alone : Routine → Unit
 alone r = unit_of (r ∷ [])
+
+-- the routine's bytes in memory, at its first instruction, with this stack pointer
+abbrev pub entered : Routine → ℕ → State
+entered r sp = ready (bytes_of r.code) 0x100 sp
+
+-- a state is an entry of the routine alone
+abbrev pub IsEntryOf : Routine → State → Type 0
+IsEntryOf r s = IsEntry (alone r) r s
+
+-- the run of the routine alone from a state is good through any number of steps
+abbrev pub RunIsGood : Routine → State → Type 0
+RunIsGood r s = (n : ℕ) → IsGood (alone r) r s n
 
 -- STA w and RET, where some areas are listed as read and some as changed
 abbrev pub store : ℕ → List Area → List Area → Routine
@@ -125,9 +142,17 @@ only i = record plain { code = line 0x100 i ∷ [] }
 
 -- the state in which it begins, with SP 2380H
 abbrev pub given : Instr → State
-given i = ready (bytes_of (only i).code) 0x100 0x2380
+given i = entered (only i) 0x2380
 
--- the same as a start routine
+-- what is claimed of t is true of the run of the instruction from s
+abbrev pub IsGoodOf : Instr → State → State → Type 0
+IsGoodOf i s t = IsGoodAt (alone (only i)) (only i) s t
+
+-- the next step from t returns, for a run of the instruction that began in the given state
+abbrev pub ReturnsAt : Instr → State → Type 0
+ReturnsAt i t = IsReturnStep (alone (only i)) (only i) (given i) t
+
+-- one instruction, as a start routine
 abbrev pub begin : Instr → Routine
 begin i = record (only i) { start = true }
 
@@ -140,12 +165,25 @@ finish = record (only Ret) {
   depth = 2;
 }
 
--- JMP w, and RET at 110H as a routine of its own with these assertions
+-- t is what its return may leave, where s is the entry
+abbrev pub MayLeave : State → State → Type 0
+MayLeave s t = HasReturned (alone finish) finish s t
+
+-- RET, where mem[w] = 0 is asserted
+abbrev pub watch : ℕ → Routine
+watch w = record plain { code = record { address = 0x100; instr = Ret; asserts = cell_is_zero w ∷ [] } ∷ [] }
+
+-- JMP w
 abbrev pub hop : ℕ → Routine
 hop w = only (Jmp w)
 
+-- RET at 110H, with these assertions
 abbrev pub landing : List Note → Routine
 landing asserts = record plain { address = 0x110; code = record { address = 0x110; instr = Ret; asserts = asserts } ∷ [] }
+
+-- a program of both
+abbrev pub hopping : ℕ → List Note → Unit
+hopping w asserts = unit_of (hop w ∷ landing asserts ∷ [])
 
 -- LXI B,w, PUSH B, RET and RET: the first RET goes on at w
 abbrev pub far : ℕ → Routine
@@ -167,3 +205,7 @@ caller depth = record plain {
   depth = depth;
   code = line 0x110 (Lxi pair.Sp 0x2400) ∷ line 0x113 (Call 0x100) ∷ line 0x116 Hlt ∷ [];
 }
+
+-- a program of it, and of the routine at 100H that it calls
+abbrev pub calling : ℕ → Unit
+calling depth = unit_of (push 2 [] ∷ caller depth ∷ [])

@@ -1,18 +1,18 @@
 //! Which of the small programs are good. Each law has a list or a number in which a program differs from its twins.
 
-ghost use Rattle.std.specs.Prelude.{◌≡◌, ◌↔◌, ◌⊎◌, ℕ, ◌+◌, ◌<◌, ◌≤◌, true, false, List, [], ◌∷◌, ◌++◌, Contains};
+ghost use Rattle.std.specs.Prelude.{◌≡◌, ◌≢◌, ◌↔◌, ◌⊎◌, ℕ, ◌+◌, ◌<◌, ◌≤◌, true, false, List, [], ◌∷◌, ◌++◌, Contains};
 ghost use Rattle.sp_base.specs.declared.location.Loc.{Loc};
 ghost use Rattle.sp_base.specs.declared.location.Loc.TheVariants as loc;
 ghost use Rattle.sp_isa.specs.Effect.{gives_output, takes_input};
 ghost use Rattle.sp_isa.specs.declared.instr.Cond.TheVariants as when;
 ghost use Rattle.sp_isa.specs.declared.instr.Instr.{Instr};
 ghost use Rattle.sp_isa.specs.declared.instr.Instr.TheVariants.{In, Nop, Out, Rcc, Ret};
-ghost use Rattle.sp_model.specs.Good.{AllRunsAreGood, HasReturned, IsEntry, IsGood, IsGoodAt, IsReturnStep, Keeps, base};
+ghost use Rattle.sp_model.specs.Good.{AllRunsAreGood, IsEntry, IsGood, IsGoodAt, IsReturnStep, Keeps, base};
 ghost use Rattle.sp_model.specs.Note.{Note};
 ghost use Rattle.sp_model.specs.State.{State, IsState, next_instr, run, step};
 ghost use Rattle.sp_model.specs.Unit.{Area, Routine, Unit};
-ghost use Rattle.sp_examples.specs.States.{end_cells, left, ready, stopped, with_input, with_sp, with_z};
-ghost use Rattle.sp_examples.specs.Units.{IsFree, a_is, alone, begin, bytes_of, far, finish, given, guard, hop, landing, line, load, only, push, pushed_word, run_on, send, store, take, unit_of, write};
+ghost use Rattle.sp_examples.specs.States.{elsewhere, end_cells, left, ready, stopped, with_a, with_input, with_output, with_sp, with_z};
+ghost use Rattle.sp_examples.specs.Units.{IsEntryOf, IsFree, IsGoodOf, MayLeave, ReturnsAt, RunIsGood, a_is, alone, begin, calling, entered, far, finish, given, guard, hop, hopping, line, load, only, push, pushed_word, run_on, send, store, take, watch, write};
 
 /// `STA w` is good exactly where an area listed as changed has the cell w, whatever areas are listed as read.
 pub fn stores_are_listed()
@@ -53,52 +53,53 @@ pub fn stack_is_taken_within_depth()
 /// With nothing listed, `STA w` is good exactly where w is one of the `depth` bytes below the base, and never at the base:
 /// for a start routine the base is the address past the stack region, for another it is SP at the entry.
 pub fn allotment_lies_below_base()
-    ensures start { (depth w : ℕ) → 0x200 ≤ w → w < 65536 → AllRunsAreGood (alone (write true depth w)) ↔ ((w < 0x2400) × (0x2400 ≤ w + depth)) }
+    ensures start { (depth w : ℕ) → 0x200 ≤ w → w < 65536
+        → AllRunsAreGood (alone (write true depth w)) ↔ ((w < 0x2400) × (0x2400 ≤ w + depth)) }
     ensures other { (depth w sp : ℕ) → 0x200 ≤ w → w < 65536
-        → ((n : ℕ) → IsGood (alone (write false depth w)) (write false depth w) (ready (bytes_of (write false depth w).code) 0x100 sp) n)
-        ↔ ((w < sp) × (sp ≤ w + depth)) }
+        → RunIsGood (write false depth w) (entered (write false depth w) sp) ↔ ((w < sp) × (sp ≤ w + depth)) }
 {}
 
 /// A routine is entered with stack room for its return address and its depth, and a start routine with any SP.
 pub fn entries_have_room()
-    ensures room { (depth sp : ℕ) → IsEntry (alone (push depth [])) (push depth []) (ready (bytes_of (push depth []).code) 0x100 sp)
-        ↔ ((0x2300 + depth ≤ sp) × (sp + 1 ≤ 0x23FF)) }
+    ensures room { (depth sp : ℕ)
+        → IsEntryOf (push depth []) (entered (push depth []) sp) ↔ ((0x2300 + depth ≤ sp) × (sp + 1 ≤ 0x23FF)) }
     ensures start { (depth sp w : ℕ) → w < 65536 → sp < 65536
-        → IsEntry (alone (write true depth w)) (write true depth w) (ready (bytes_of (write true depth w).code) 0x100 sp) }
+        → IsEntryOf (write true depth w) (entered (write true depth w) sp) }
 {}
 
-/// A state is no entry without the image, at another address, halted, or with a part out of its range. The given one is an
-/// entry by the law on room.
+/// A state is no entry without the image, at another address, halted, or with a part out of its range. The state that is
+/// changed here is an entry by the law on room.
 pub fn entries_are_whole()
-    ensures loaded { ¬ IsEntry (alone (push 2 [])) (push 2 []) (ready [] 0x100 0x2380) }
-    ensures address { ¬ IsEntry (alone (push 2 [])) (push 2 []) (ready (bytes_of (push 2 []).code) 0x101 0x2380) }
-    ensures running { ¬ IsEntry (alone (push 2 [])) (push 2 []) (stopped (ready (bytes_of (push 2 []).code) 0x100 0x2380)) }
-    ensures state { ¬ IsEntry (alone (push 2 [])) (push 2 []) (with_input 256 (ready (bytes_of (push 2 []).code) 0x100 0x2380)) }
+    ensures loaded { ¬ IsEntryOf (push 2 []) (ready [] 0x100 0x2380) }
+    ensures address { ¬ IsEntryOf (push 2 []) (elsewhere (entered (push 2 []) 0x2380)) }
+    ensures running { ¬ IsEntryOf (push 2 []) (stopped (entered (push 2 []) 0x2380)) }
+    ensures state { ¬ IsEntryOf (push 2 []) (with_input 256 (entered (push 2 []) 0x2380)) }
 {}
 
 /// Preconditions are true at an entry, whatever the postconditions: A is 7 in the given state.
 pub fn preconditions_are_true()
-    ensures { (m n : ℕ) → IsEntry (alone (guard (a_is m ∷ []) (a_is n ∷ []))) (guard (a_is m ∷ []) (a_is n ∷ [])) (ready (bytes_of (guard [] []).code) 0x100 0x2380)
-        ↔ (m ≡ 7) }
+    ensures { (m n : ℕ)
+        → IsEntryOf (guard (a_is m ∷ []) (a_is n ∷ [])) (entered (guard [] []) 0x2380) ↔ (m ≡ 7) }
 {}
 
 /// The two empty premises. A precondition that no state meets, and a depth that leaves no room in the stack region, leave
 /// a routine without an entry, and then nothing is claimed of it: a program of it alone is good, whatever its
 /// postconditions and assertions.
 pub fn routines_without_entry()
-    ensures pre { (n : ℕ) (s : State) → ¬ IsEntry (alone (guard (a_is 256 ∷ []) (a_is n ∷ []))) (guard (a_is 256 ∷ []) (a_is n ∷ [])) s }
-    ensures room { (asserts : List Note) (s : State) → ¬ IsEntry (alone (push 0xFF asserts)) (push 0xFF asserts) s }
-    ensures good { (r : Routine) → ((s : State) → ¬ IsEntry (alone r) r s) → AllRunsAreGood (alone r) }
+    ensures pre { (n : ℕ) (s : State) → ¬ IsEntryOf (guard (a_is 256 ∷ []) (a_is n ∷ [])) s }
+    ensures room { (asserts : List Note) (s : State) → ¬ IsEntryOf (push 0xFF asserts) s }
+    ensures good { (r : Routine) → ((s : State) → ¬ IsEntryOf r s) → AllRunsAreGood (alone r) }
 {}
 
 /// A step returns exactly where its instruction returns and SP is the base: SP at the entry, or the address past the stack
 /// region for a start routine. A conditional return does so where its condition holds. A halted state returns nowhere.
 pub fn returns_are_at_base()
-    ensures base { (sp : ℕ) → IsReturnStep (alone (only Ret)) (only Ret) (given Ret) (with_sp sp (given Ret)) ↔ (sp ≡ 0x2380) }
-    ensures start { (sp : ℕ) → IsReturnStep (alone (begin Ret)) (begin Ret) (given Ret) (with_sp sp (given Ret)) ↔ (sp ≡ 0x2400) }
-    ensures condition { (z : ℕ) → IsReturnStep (alone (only (Rcc when.Z))) (only (Rcc when.Z)) (given (Rcc when.Z)) (with_z z (given (Rcc when.Z))) ↔ (z ≡ 1) }
-    ensures halted { ¬ IsReturnStep (alone (only Ret)) (only Ret) (given Ret) (stopped (given Ret)) }
-    ensures other { ¬ IsReturnStep (alone (only Nop)) (only Nop) (given Nop) (given Nop) }
+    ensures base { (sp : ℕ) → ReturnsAt Ret (with_sp sp (given Ret)) ↔ (sp ≡ 0x2380) }
+    ensures start { (sp : ℕ)
+        → IsReturnStep (alone (begin Ret)) (begin Ret) (given Ret) (with_sp sp (given Ret)) ↔ (sp ≡ 0x2400) }
+    ensures condition { (z : ℕ) → ReturnsAt (Rcc when.Z) (with_z z (given (Rcc when.Z))) ↔ (z ≡ 1) }
+    ensures halted { ¬ ReturnsAt Ret (stopped (given Ret)) }
+    ensures other { ¬ ReturnsAt Nop (given Nop) }
 {}
 
 /// After a return: the postcondition is true (A is 9), a register that isn't listed is as at the entry (B is 1), SP is two
@@ -106,16 +107,18 @@ pub fn returns_are_at_base()
 /// (2000H) or one of the depth of two bytes below the base (2380H) was written.
 pub fn returns_leave_what_is_listed()
     ensures { (a b sp pc port w : ℕ) → w < 65536
-        → HasReturned (alone finish) finish (ready end_cells 0x100 0x2380) (left a b sp pc port w (ready end_cells 0x100 0x2380))
-        ↔ ((a ≡ 9) × (b ≡ 1) × (sp ≡ 0x2382) × (pc ≡ 0x1234) × (port ≡ 5) × ((w ≡ 0x2000) ⊎ ((0x237E ≤ w) × (w < 0x2380)))) }
+        → MayLeave (ready end_cells 0x100 0x2380) (left a b sp pc port w (ready end_cells 0x100 0x2380))
+        ↔ ((a ≡ 9) × (b ≡ 1) × (sp ≡ 0x2382) × (pc ≡ 0x1234) × (port ≡ 5)
+        × ((w ≡ 0x2000) ⊎ ((0x237E ≤ w) × (w < 0x2380)))) }
 {}
 
 /// A halted state is good whatever stands at its PC. One that isn't halted is bad where no instruction begins, or where
 /// an IN takes from a port that isn't listed.
 pub fn halted_states_go_nowhere()
-    ensures halted { (i : Instr) (cells : List (ℕ × ℕ)) → IsGoodAt (alone (only i)) (only i) (ready cells 0x100 0x2380) (stopped (ready cells 0x100 0x2380)) }
-    ensures stuck { ¬ IsGoodAt (alone (only Nop)) (only Nop) (ready ((0x100, 8) ∷ []) 0x100 0x2380) (ready ((0x100, 8) ∷ []) 0x100 0x2380) }
-    ensures input { ¬ IsGoodAt (alone (only (In 5))) (only (In 5)) (given (In 5)) (given (In 5)) }
+    ensures halted { (i : Instr) (cells : List (ℕ × ℕ))
+        → IsGoodOf i (ready cells 0x100 0x2380) (stopped (ready cells 0x100 0x2380)) }
+    ensures stuck { ¬ IsGoodOf Nop (ready ((0x100, 8) ∷ []) 0x100 0x2380) (ready ((0x100, 8) ∷ []) 0x100 0x2380) }
+    ensures input { ¬ IsGoodOf (In 5) (given (In 5)) (given (In 5)) }
 {}
 
 /// A run that leaves the code is bad: NOP is good with a RET after it, and bad with none. Where a JMP leads to, an
@@ -123,15 +126,15 @@ pub fn halted_states_go_nowhere()
 pub fn runs_stay_in_code()
     ensures ended { AllRunsAreGood (alone (run_on (line 0x101 Ret ∷ []))) }
     ensures unended { ¬ AllRunsAreGood (alone (run_on [])) }
-    ensures jump { (w : ℕ) → w < 65536 → AllRunsAreGood (unit_of (hop w ∷ landing [] ∷ [])) ↔ ((w ≡ 0x100) ⊎ (w ≡ 0x110)) }
+    ensures jump { (w : ℕ) → w < 65536 → AllRunsAreGood (hopping w []) ↔ ((w ≡ 0x100) ⊎ (w ≡ 0x110)) }
 {}
 
 /// The assertions of a routine are its own: a false one where another routine goes on is nothing to that other one. All
 /// routines of a program count: this one is bad by its second routine.
 pub fn assertions_are_those_of_the_routine()
-    ensures first { (n : ℕ) (s : State) → IsEntry (unit_of (hop 0x110 ∷ landing (a_is 5 ∷ []) ∷ [])) (hop 0x110) s
-        → IsGood (unit_of (hop 0x110 ∷ landing (a_is 5 ∷ []) ∷ [])) (hop 0x110) s n }
-    ensures second { ¬ AllRunsAreGood (unit_of (hop 0x110 ∷ landing (a_is 5 ∷ []) ∷ [])) }
+    ensures first { (n : ℕ) (s : State) → IsEntry (hopping 0x110 (a_is 5 ∷ [])) (hop 0x110) s
+        → IsGood (hopping 0x110 (a_is 5 ∷ [])) (hop 0x110) s n }
+    ensures second { ¬ AllRunsAreGood (hopping 0x110 (a_is 5 ∷ [])) }
 {}
 
 /// A RET with another SP than the base is a jump: it goes on at the word that was pushed, which is good at the second RET,
@@ -141,12 +144,27 @@ pub fn other_returns_are_jumps()
     ensures bad { ¬ AllRunsAreGood (alone (far 0x106)) }
 {}
 
+/// A start routine that calls a routine is good exactly with stack for both: two bytes for the return address, and the
+/// two that the routine takes. The RET of the routine isn't the caller's return, since SP isn't the caller's base.
+pub fn calls_are_within_depth()
+    ensures { (depth : ℕ) → AllRunsAreGood (calling depth) ↔ (4 ≤ depth) }
+{}
+
+/// Annotations see zeros in the stack region, from its first cell to its last, and memory elsewhere: `mem[w] = 0` is true in
+/// all runs exactly there; 100H has the program.
+pub fn annotations_see_no_stack()
+    ensures { (w : ℕ) → w < 65536 → w ≢ 0x100
+        → AllRunsAreGood (alone (watch w)) ↔ ((0x2300 ≤ w) × (w ≤ 0x23FF)) }
+{}
+
 /// IN takes the next byte to come, or 255 where there is none, and puts nothing out. OUT puts its port and A after what was
 /// put out before, and takes nothing. Other instructions leave both.
 pub fn steps_at_ports()
-    ensures taken { (s : State) (port n x : ℕ) (rest : List ℕ) → s.core.halted ≡ false → next_instr s.core ≡ Some (In port, n) → s.inputs ≡ x ∷ rest
+    ensures taken { (s : State) (port n x : ℕ) (rest : List ℕ)
+        → s.core.halted ≡ false → next_instr s.core ≡ Some (In port, n) → s.inputs ≡ x ∷ rest
         → ((step s).core.a ≡ x) × ((step s).inputs ≡ rest) × ((step s).outputs ≡ s.outputs) }
-    ensures past_end { (s : State) (port n : ℕ) → s.core.halted ≡ false → next_instr s.core ≡ Some (In port, n) → s.inputs ≡ []
+    ensures past_end { (s : State) (port n : ℕ)
+        → s.core.halted ≡ false → next_instr s.core ≡ Some (In port, n) → s.inputs ≡ []
         → ((step s).core.a ≡ 255) × ((step s).inputs ≡ []) × ((step s).outputs ≡ s.outputs) }
     ensures put_out { (s : State) (port n : ℕ) → s.core.halted ≡ false → next_instr s.core ≡ Some (Out port, n)
         → ((step s).inputs ≡ s.inputs) × ((step s).outputs ≡ s.outputs ++ (port, s.core.a) ∷ []) }
@@ -157,16 +175,17 @@ pub fn steps_at_ports()
 
 /// A state has bytes in its registers, among its inputs, and as ports and bytes among its outputs.
 pub fn states_are_in_range()
-    ensures register { (a : ℕ) → IsState (record (given Nop) { core = record (given Nop).core { a = a } }) ↔ (a < 256) }
-    ensures input { (byte : ℕ) → IsState (record (given Nop) { inputs = byte ∷ [] }) ↔ (byte < 256) }
-    ensures output { (port byte : ℕ) → IsState (record (given Nop) { outputs = (port, byte) ∷ [] }) ↔ ((port < 256) × (byte < 256)) }
+    ensures register { (a : ℕ) → IsState (with_a a (given Nop)) ↔ (a < 256) }
+    ensures input { (byte : ℕ) → IsState (with_input byte (given Nop)) ↔ (byte < 256) }
+    ensures output { (port byte : ℕ) → IsState (with_output port byte (given Nop)) ↔ ((port < 256) × (byte < 256)) }
 {}
 
 /// Nothing has changed between a state and itself, and what two parts of a run keep the whole keeps, where the base is the
 /// same.
 pub fn keeping_composes()
     ensures itself { (u : Unit) (r : Routine) (s : State) → Keeps u r s s }
-    ensures parts { (u : Unit) (r : Routine) (s t v : State) → base u r t ≡ base u r s → Keeps u r s t → Keeps u r t v → Keeps u r s v }
+    ensures parts { (u : Unit) (r : Routine) (s t v : State)
+        → base u r t ≡ base u r s → Keeps u r s t → Keeps u r t v → Keeps u r s v }
 {}
 
 /// What is claimed of no step is claimed of the entry; of one step more, of the state after it too, if no step before it
@@ -174,6 +193,9 @@ pub fn keeping_composes()
 pub fn claims_grow_by_steps()
     ensures none { (u : Unit) (r : Routine) (s : State) → IsGood u r s 0 ↔ IsGoodAt u r s s }
     ensures more { (u : Unit) (r : Routine) (s : State) (n : ℕ)
-        → IsGood u r s (n + 1) ↔ (IsGood u r s n × (((k : ℕ) → k ≤ n → ¬ IsReturnStep u r s (run s k)) → IsGoodAt u r s (run s (n + 1)))) }
-    ensures returned { (u : Unit) (r : Routine) (s : State) (n m : ℕ) → IsGood u r s n → IsReturnStep u r s (run s n) → IsGood u r s m }
+        → IsGood u r s (n + 1)
+        ↔ (IsGood u r s n
+        × (((k : ℕ) → k ≤ n → ¬ IsReturnStep u r s (run s k)) → IsGoodAt u r s (run s (n + 1)))) }
+    ensures returned { (u : Unit) (r : Routine) (s : State) (n m : ℕ)
+        → IsGood u r s n → IsReturnStep u r s (run s n) → IsGood u r s m }
 {}
