@@ -20,6 +20,11 @@ pub one_of : {A : Type 0} (P : A → Type 0) (x : A) → P x → (y : A) → Con
 one_of P x p y (zero, less, is) = subst P is p
 one_of P x p y (suc k, less, is) = absurd (omega arith)
 
+pub two_of : {A : Type 0} (P : A → Type 0) (x y : A) → P x → P y → (z : A) → Contains (x ∷ y ∷ []) z → P z
+two_of P x y p q z (zero, less, is) = subst P is p
+two_of P x y p q z (suc zero, less, is) = subst P is q
+two_of P x y p q z (suc (suc k), less, is) = absurd (omega arith)
+
 pub later : {A : Type 0} (x y : A) (xs : List A) → Contains xs y → Contains (x ∷ xs) y
 later x y xs (k, less, is) = (suc k, omega arith, is)
 

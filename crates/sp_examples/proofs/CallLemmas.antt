@@ -1,6 +1,6 @@
 -- A start routine that calls a routine.
 use Rattle.std.proofs.Common.{◌≡◌, ℕ, zero, suc, ◌+◌, ◌*◌, ◌%◌, ◌<◌, ◌≤◌, true, false, List, [], ◌∷◌, ◌++◌, length, refl, sym, ap, subst, ◌∙◌, arith, Some, inl, inr, lit<, lit≤, get_or-set_same, length-set}
-use Rattle.std.specs.Prelude.{Contains, slice_index, slice_set, ◌↔◌}
+use Rattle.std.specs.Prelude.{slice_index, slice_set, ◌↔◌}
 use Rattle.std.proofs.lemmas.List.Elements.{All-nil}
 use Rattle.std.proofs.lemmas.Bool.{cases_lt}
 use Rattle.std.specs.Ordering.{nat_cmp}
@@ -20,7 +20,7 @@ use Rattle.sp_examples.proofs.RunLemmas.{step_quiet, IsGoodFrom, goes, halts, go
 use Rattle.sp_examples.proofs.KeepsLemmas.{keeps_itself, keeps_still, keeps_written, loaded_written, cell_apart}
 use Rattle.sp_examples.proofs.EntryLemmas.{loaded_part, fetch, low_image, placed, placed_is, memory_at, memory_long, ready_state, ready_loaded}
 use Rattle.sp_examples.proofs.GoodLemmas.{HasNoAsserts, Says, good_step, good_away, not_return, step_ret, unasserted}
-use Rattle.sp_examples.proofs.AloneLemmas.{wider, loaded_still}
+use Rattle.sp_examples.proofs.AloneLemmas.{two_of, wider, loaded_still}
 use Rattle.sp_base.specs.declared.pair.Pair.TheVariants as pair
 use Rattle.sp_isa.specs.declared.instr.Instr.TheVariants.{Call}
 use Rattle.sp_model.proofs.StateLemmas.{steps_keep_states}
@@ -214,11 +214,6 @@ caller_entry depth = record {
   pre = All-nil (Says (both depth) (caller depth) (ready cells 0x110 0) (ready cells 0x110 0));
   room = λ h. cc;
 }
-
-two_of : {A : Type 0} (P : A → Type 0) (x y : A) → P x → P y → (z : A) → Contains (x ∷ y ∷ []) z → P z
-two_of P x y p q z (zero, less, is) = subst P is p
-two_of P x y p q z (suc zero, less, is) = subst P is q
-two_of P x y p q z (suc (suc k), less, is) = absurd (omega arith)
 
 -- the first three steps from the given entry
 first_three : (depth k : ℕ) → k < 3 → ¬ IsReturnStep (both depth) (caller depth) (ready cells 0x110 0) (run (ready cells 0x110 0) k)

@@ -18,7 +18,7 @@ use Rattle.sp_examples.proofs.RunLemmas.{step_quiet, IsGoodFrom, goes, good_of}
 use Rattle.sp_examples.proofs.KeepsLemmas.{keeps_itself, keeps_still}
 use Rattle.sp_examples.proofs.EntryLemmas.{bytes_from, state_of_bytes, fetch, placed, placed_is, ready_state, ready_loaded}
 use Rattle.sp_examples.proofs.GoodLemmas.{HasNoAsserts, Says, good_step, not_return, back, unasserted}
-use Rattle.sp_examples.proofs.AloneLemmas.{one_of, all_alone, after_one, finish, at_moved, loaded_still}
+use Rattle.sp_examples.proofs.AloneLemmas.{two_of, one_of, all_alone, after_one, finish, at_moved, loaded_still}
 use Rattle.sp_examples.specs.Units.{unit_of, hop, landing, run_on}
 
 -- ---- falling off the end
@@ -100,11 +100,6 @@ jumps w s small loaded =
     let same : w % 65536 ≡ w = omega arith in
     step_quiet (placed s 0x100) (Jmp w) 3 refl (fetches_jmp w s loaded) refl refl
     ∙ ap (λ pc. record s { core = record s.core { pc = pc; halted = false } }) same
-
-two_of : {A : Type 0} (P : A → Type 0) (x y : A) → P x → P y → (z : A) → Contains (x ∷ y ∷ []) z → P z
-two_of P x y p q z (zero, less, is) = subst P is p
-two_of P x y p q z (suc zero, less, is) = subst P is q
-two_of P x y p q z (suc (suc k), less, is) = absurd (omega arith)
 
 hop_entry : (w : ℕ) (asserts : List Note) → w < 65536 → IsEntry (both w asserts) (hop w) (ready (hop_cells w) 0x100 0x2380)
 hop_entry w asserts small = record {

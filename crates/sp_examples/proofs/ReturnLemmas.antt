@@ -17,14 +17,14 @@ use Rattle.sp_examples.specs.States.{ready, memory_of}
 use Rattle.sp_examples.proofs.KeepsLemmas.{same_or_not, cell_apart}
 use Rattle.sp_examples.proofs.EntryLemmas.{fetch, memory_at, memory_long, ready_loaded}
 use Rattle.sp_examples.proofs.GoodLemmas.{same_some, Says, not_return, return_step}
-use Rattle.sp_examples.proofs.AloneLemmas.{one_of, loaded_still}
+use Rattle.sp_examples.proofs.AloneLemmas.{one_of, two_of, loaded_still}
 use Rattle.std.specs.Prelude.{◌==◌}
 use Rattle.std.specs.FinMap.{find}
 use Rattle.sp_isa.specs.declared.instr.Instr.{Instr}
 use Rattle.sp_isa.specs.declared.instr.Instr.TheVariants.{Rcc}
 use Rattle.sp_isa.specs.declared.instr.Cond.TheVariants as when
 use Rattle.sp_isa.specs.Effect.{returns}
-use Rattle.sp_examples.specs.Units.{given, only, begin, finish as finishing}
+use Rattle.sp_examples.specs.Units.{given, only, begin, finish as finishing, one_cell}
 use Rattle.sp_examples.specs.States.{stopped, with_sp as at_sp, with_z, left, end_cells}
 use Rattle.sp_examples.proofs.EntryLemmas.{found_all}
 
@@ -84,16 +84,16 @@ return_word =
 
 -- the cells that the routine may write
 abbrev pub MayWrite : ℕ → Type 0
-MayWrite w = (w ≡ 0x2000) ⊎ ((0x237E ≤ w) × (w < 0x2380))
+MayWrite w = (w ≡ 0x2000) ⊎ ((0x237E ≤ w) × (w ≤ 0x2380))
 
 may_write : (w : ℕ) → MayWrite w ⊎ (MayWrite w → ⊥)
 may_write w = elim (same_or_not w 0x2000) [
   | inl is ↦ inl (inl is)
   | inr other ↦ elim (cases_lt w 0x237E) [
     | inl low ↦ inr (λ h. elim h [ inl is ↦ other is | inr in_stack ↦ omega (arith, in_stack.0) ])
-    | inr high ↦ elim (cases_lt w 0x2380) [
-      | inl below ↦ inl (inr (high, below))
-      | inr above ↦ inr (λ h. elim h [ inl is ↦ other is | inr in_stack ↦ omega (arith, in_stack.1) ])
+    | inr high ↦ elim (cases_lt 0x2380 w) [
+      | inl above ↦ inr (λ h. elim h [ inl is ↦ other is | inr in_stack ↦ omega (arith, in_stack.1) ])
+      | inr below ↦ inl (inr (high, below))
     ]
   ]
 ]
@@ -128,8 +128,8 @@ left_law a b sp pc port w low =
           | inl may ↦ may
           | inr never ↦ absurd (was w low
               (sym (h.keeps.memory w low
-              (λ area listed inside. one_of (λ area. InArea w area → ⊥) (record { name = []; address = 0x2000; len = 1 }) (λ inside. never (inl (omega (arith, inside.0, inside.1)))) area listed inside)
-              (λ inside. never (inr (omega (arith, inside.1), inside.0))))
+              (λ area listed inside. two_of (λ area. InArea w area → ⊥) (one_cell 0x2000) (one_cell 0x2380) (λ inside. never (inl (omega (arith, inside.0, inside.1)))) (λ inside. never (inr (omega (arith, inside.0), omega (arith, inside.1)))) area listed inside)
+              (λ inside. never (inr (omega (arith, inside.1), omega (arith, inside.0)))))
               ∙ written))
         ],
       ),
@@ -139,7 +139,7 @@ left_law a b sp pc port w low =
               let there : x % 65536 ≡ x = omega arith in
               cell_apart (memory_of end_cells) (x % 65536) w 1 (λ is. elim h.5 [
                 | inl there ↦ apart _ (0, lit< tt, refl) (omega arith)
-                | inr in_stack ↦ out (omega arith, omega arith)
+                | inr in_stack ↦ elim (cases_lt w 0x2380) [ inl below ↦ out (omega arith, omega arith) | inr top ↦ apart _ (1, lit< tt, refl) (omega arith, omega arith) ]
               ]);
           outputs = ((port, 0) ∷ [], refl, All-cons (λ o. Contains (5 ∷ []) o.0) (port, 0) [] (0, lit< tt, sym h.4) (All-nil (λ o. Contains (5 ∷ []) o.0)));
         };

@@ -34,6 +34,10 @@ cell_is_zero w = Compare Equal (Cell Now (Literal w)) (Literal 0)
 abbrev pub pushed_word : ℕ → Note
 pushed_word k = Compare Equal (StackWord k) (Pair AtEntry BC)
 
+-- an area of one cell
+abbrev pub one_cell : ℕ → Area
+one_cell a = record { name = []; address = a; len = 1 }
+
 -- a routine at 100H without instructions, annotations, lists or stack
 abbrev pub plain : Routine
 plain = record {
@@ -156,11 +160,12 @@ ReturnsAt i t = IsReturnStep (alone (only i)) (only i) (given i) t
 abbrev pub begin : Instr → Routine
 begin i = record (only i) { start = true }
 
--- RET, after which A is 9, where A and the cell 2000H are listed as changed and port 5 for outputs, with two bytes of stack
+-- RET, after which A is 9, where A and the cells 2000H and 2380H are listed as changed and port 5 for outputs, with two
+-- bytes of stack
 abbrev pub finish : Routine
 finish = record (only Ret) {
   post = a_is 9 ∷ [];
-  changes = record { locs = loc.A ∷ []; areas = record { name = []; address = 0x2000; len = 1 } ∷ [] };
+  changes = record { locs = loc.A ∷ []; areas = one_cell 0x2000 ∷ one_cell 0x2380 ∷ [] };
   outs = 5 ∷ [];
   depth = 2;
 }

@@ -103,13 +103,13 @@ pub fn returns_are_at_base()
 {}
 
 /// After a return: the postcondition is true (A is 9), a register that isn't listed is as at the entry (B is 1), SP is two
-/// higher, PC is the word that stood at the base (1234H), bytes went to listed ports alone (port 5), and only a listed cell
-/// (2000H) or one of the depth of two bytes below the base (2380H) was written.
+/// higher, PC is the word that stood at the base (1234H) even if it was written since, bytes went to listed ports alone
+/// (port 5), and only a listed cell (2000H, 2380H) or one of the two bytes below the base (2380H) was written.
 pub fn returns_leave_what_is_listed()
     ensures { (a b sp pc port w : ℕ) → w < 65536
         → MayLeave (ready end_cells 0x100 0x2380) (left a b sp pc port w (ready end_cells 0x100 0x2380))
         ↔ ((a ≡ 9) × (b ≡ 1) × (sp ≡ 0x2382) × (pc ≡ 0x1234) × (port ≡ 5)
-        × ((w ≡ 0x2000) ⊎ ((0x237E ≤ w) × (w < 0x2380)))) }
+        × ((w ≡ 0x2000) ⊎ ((0x237E ≤ w) × (w ≤ 0x2380)))) }
 {}
 
 /// A halted state is good whatever stands at its PC. One that isn't halted is bad where no instruction begins, or where
