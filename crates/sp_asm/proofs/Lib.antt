@@ -2,11 +2,15 @@ pub mod AnswerLaws
 pub mod CauseLaws
 pub mod DataLaws
 pub mod DeclaredLaws
+pub mod DefinitionLemmas
 pub mod ElementLaws
 pub mod FaultLaws
+pub mod MeaningLemmas
 pub mod NameLaws
 pub mod OperandLaws
+pub mod OrderLemmas
 pub mod PlaceLaws
+pub mod PlainLemmas
 pub mod RoundLaws
 pub mod RowLaws
 pub mod SplitLaws

@@ -11,10 +11,10 @@ module _ {A : Type 0} where
   none_within [] below p e = cc
   none_within (a ∷ above) below p e = cc
 
-  head_is : (x y : A) (xs ys : List A) → x ∷ xs ≡ y ∷ ys → x ≡ y
+  pub head_is : (x y : A) (xs ys : List A) → x ∷ xs ≡ y ∷ ys → x ≡ y
   head_is x y xs ys e = cc
 
-  tail_is : (x y : A) (xs ys : List A) → x ∷ xs ≡ y ∷ ys → xs ≡ ys
+  pub tail_is : (x y : A) (xs ys : List A) → x ∷ xs ≡ y ∷ ys → xs ≡ ys
   tail_is x y xs ys e = cc
 
   pub splits_empty : (P : List A → A → Type 0) → AllSplits P []

@@ -1,6 +1,7 @@
 pub mod code
 pub mod Assembly
 pub mod Listing
+pub mod Meanings
 pub mod Names
 pub mod Refusals
 pub mod Source

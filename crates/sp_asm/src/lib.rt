@@ -14,6 +14,6 @@ mod rows;
 mod values;
 
 pub use assembler::assemble;
-pub use laws::{a_source_has_one_assembly, causes_are_one};
+pub use laws::{a_source_has_one_assembly, causes_are_one, names_have_meanings};
 pub use listing::{Item, ItemKind, Items, Listing};
 pub use refusal::{AsmKind, AsmRefusal};
