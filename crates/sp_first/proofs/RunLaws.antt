@@ -21,7 +21,7 @@ use Rattle.sp_isa.specs.Operands.{with_arg}
 use Rattle.sp_isa.specs.Core.{Core, at, reg_of, cell, word, with_reg, with_pc, with_sp, advance}
 use Rattle.sp_isa.specs.Stack.{ret}
 use Rattle.sp_isa.specs.Effect.{effect, takes_input, returns}
-use Rattle.sp_isa.proofs.CodeLaws.{decodes_codes}
+use Rattle.sp_isa.proofs.CodeLemmas.{decodes_codes}
 use Rattle.sp_model.specs.State.{State, IsState, next_instr, executed, step, run}
 use Rattle.sp_model.proofs.StateLemmas.{steps_execute}
 use Rattle.sp_model.specs.Note.{Holds}

@@ -1,4 +1,9 @@
 pub mod Cases
 pub mod CodeLaws
+pub mod CodeLemmas
 pub mod CoreLaws
-pub mod LocationLaws
+pub mod CoreLemmas
+pub mod LocationLemmas
+pub mod OutcomeLemmas
+pub mod SumLemmas
+pub mod UndoLemmas

@@ -95,5 +95,5 @@ adjust core =
     (with_flag loc.Cy (one_if (adjusts_high core)) (with_flag loc.Ac (one_if (nat_le 16 (core.a % 16 + six))) core)))
 
 -- A takes a byte, and CY a bit
-unfoldable pub turn : ℕ → ℕ → Core → Core
-turn r cy core = with_reg reg.A r (with_flag loc.Cy cy core)
+unfoldable pub rotate : ℕ → ℕ → Core → Core
+rotate r cy core = with_reg reg.A r (with_flag loc.Cy cy core)

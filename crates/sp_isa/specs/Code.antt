@@ -79,72 +79,72 @@ valid _ = true
 -- the first byte of an instruction, by the fields of its eight bits
 abbrev pub opcode : Instr → ℕ
 -- 01dddsss
-opcode (Mov to from) = 64 + 8 * arg_code to + arg_code from
+opcode (Mov to from) = 0b01_000_000 + 8 * arg_code to + arg_code from
 -- 00ddd110
-opcode (Mvi to _) = 6 + 8 * arg_code to
+opcode (Mvi to _) = 0b00_000_110 + 8 * arg_code to
 -- 00ddd100
-opcode (Inr y) = 4 + 8 * arg_code y
+opcode (Inr y) = 0b00_000_100 + 8 * arg_code y
 -- 00ddd101
-opcode (Dcr y) = 5 + 8 * arg_code y
+opcode (Dcr y) = 0b00_000_101 + 8 * arg_code y
 -- 10ooosss
-opcode (Alu o y) = 128 + 8 * op_code o + arg_code y
+opcode (Alu o y) = 0b10_000_000 + 8 * op_code o + arg_code y
 -- 11ooo110
-opcode (AluImmediate o _) = 198 + 8 * op_code o
+opcode (AluImmediate o _) = 0b11_000_110 + 8 * op_code o
 -- 00pp0001
-opcode (Lxi p _) = 1 + 16 * pair_code p
+opcode (Lxi p _) = 0b00_00_0001 + 16 * pair_code p
 -- 00pp1001
-opcode (Dad p) = 9 + 16 * pair_code p
+opcode (Dad p) = 0b00_00_1001 + 16 * pair_code p
 -- 00pp0011
-opcode (Inx p) = 3 + 16 * pair_code p
+opcode (Inx p) = 0b00_00_0011 + 16 * pair_code p
 -- 00pp1011
-opcode (Dcx p) = 11 + 16 * pair_code p
+opcode (Dcx p) = 0b00_00_1011 + 16 * pair_code p
 -- 00pp0010
-opcode (Stax p) = 2 + 16 * pair_code p
+opcode (Stax p) = 0b00_00_0010 + 16 * pair_code p
 -- 00pp1010
-opcode (Ldax p) = 10 + 16 * pair_code p
-opcode (Shld _) = 0x22
-opcode (Lhld _) = 0x2A
-opcode (Sta _) = 0x32
-opcode (Lda _) = 0x3A
-opcode Rlc = 0x07
-opcode Rrc = 0x0F
-opcode Ral = 0x17
-opcode Rar = 0x1F
-opcode Daa = 0x27
-opcode Cma = 0x2F
-opcode Stc = 0x37
-opcode Cmc = 0x3F
+opcode (Ldax p) = 0b00_00_1010 + 16 * pair_code p
+opcode (Shld _) = 0b00_100_010
+opcode (Lhld _) = 0b00_101_010
+opcode (Sta _) = 0b00_110_010
+opcode (Lda _) = 0b00_111_010
+opcode Rlc = 0b00_000_111
+opcode Rrc = 0b00_001_111
+opcode Ral = 0b00_010_111
+opcode Rar = 0b00_011_111
+opcode Daa = 0b00_100_111
+opcode Cma = 0b00_101_111
+opcode Stc = 0b00_110_111
+opcode Cmc = 0b00_111_111
 -- 11pp0101
-opcode (Push p) = 197 + 16 * stack_code p
+opcode (Push p) = 0b11_00_0101 + 16 * stack_code p
 -- 11pp0001
-opcode (Pop p) = 193 + 16 * stack_code p
-opcode (Jmp _) = 0xC3
+opcode (Pop p) = 0b11_00_0001 + 16 * stack_code p
+opcode (Jmp _) = 0b11_000_011
 -- 11ccc010
-opcode (Jcc when _) = 194 + 8 * cond_code when
-opcode (Call _) = 0xCD
+opcode (Jcc when _) = 0b11_000_010 + 8 * cond_code when
+opcode (Call _) = 0b11_001_101
 -- 11ccc100
-opcode (Ccc when _) = 196 + 8 * cond_code when
-opcode Ret = 0xC9
+opcode (Ccc when _) = 0b11_000_100 + 8 * cond_code when
+opcode Ret = 0b11_001_001
 -- 11ccc000
-opcode (Rcc when) = 192 + 8 * cond_code when
+opcode (Rcc when) = 0b11_000_000 + 8 * cond_code when
 -- 11nnn111
-opcode (Rst n) = 199 + 8 * n
-opcode Pchl = 0xE9
-opcode Sphl = 0xF9
-opcode Xthl = 0xE3
-opcode Xchg = 0xEB
-opcode (In _) = 0xDB
-opcode (Out _) = 0xD3
-opcode Nop = 0x00
-opcode Ei = 0xFB
-opcode Di = 0xF3
-opcode Hlt = 0x76
+opcode (Rst n) = 0b11_000_111 + 8 * n
+opcode Pchl = 0b11_101_001
+opcode Sphl = 0b11_111_001
+opcode Xthl = 0b11_100_011
+opcode Xchg = 0b11_101_011
+opcode (In _) = 0b11_011_011
+opcode (Out _) = 0b11_010_011
+opcode Nop = 0b00_000_000
+opcode Ei = 0b11_111_011
+opcode Di = 0b11_110_011
+opcode Hlt = 0b01_110_110
 
 -- the bytes of a word, its low byte first
 abbrev pub bytes_of : ℕ → List ℕ
 bytes_of w = w % 256 ∷ w / 256 ∷ []
 
--- the bytes of an instruction's operand, which stand behind its first byte
+-- the bytes of an instruction's operand, which come after its first byte
 abbrev pub operand : Instr → List ℕ
 operand (Mvi _ n) = n ∷ []
 operand (AluImmediate _ n) = n ∷ []

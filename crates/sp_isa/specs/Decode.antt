@@ -51,8 +51,8 @@ abbrev pub coded_load : ℕ → Instr
 coded_load y = one_of y (Stax pair.B) (Ldax pair.B) (Stax pair.D) (Ldax pair.D) (Shld 0) (Lhld 0) (Sta 0) (Lda 0)
 
 -- the first bytes 00yyy111
-abbrev pub coded_turn : ℕ → Instr
-coded_turn y = one_of y Rlc Rrc Ral Rar Daa Cma Stc Cmc
+abbrev pub coded_accumulator : ℕ → Instr
+coded_accumulator y = one_of y Rlc Rrc Ral Rar Daa Cma Stc Cmc
 
 -- a register pair's instruction, by whether its code is even or odd
 abbrev pub by_parity : ℕ → Instr → Instr → Instr
@@ -62,7 +62,7 @@ by_parity y even odd = if y % 2 == 0 then even else odd
 abbrev pub coded_low : ℕ → ℕ → Option Instr
 coded_low y z =
     if z == 0 then (if y == 0 then Some Nop else None) else Some (one_of z Nop (by_parity y (Lxi (coded_pair (y / 2)) 0) (Dad (coded_pair (y / 2)))) (coded_load y)
-    (by_parity y (Inx (coded_pair (y / 2))) (Dcx (coded_pair (y / 2)))) (Inr (coded_arg y)) (Dcr (coded_arg y)) (Mvi (coded_arg y) 0) (coded_turn y))
+    (by_parity y (Inx (coded_pair (y / 2))) (Dcx (coded_pair (y / 2)))) (Inr (coded_arg y)) (Dcr (coded_arg y)) (Mvi (coded_arg y) 0) (coded_accumulator y))
 
 -- the first bytes 11yyy001
 abbrev pub coded_pop : ℕ → Option Instr

@@ -7,7 +7,7 @@ use Rattle.sp_isa.specs.declared.instr.Instr.{Instr}
 use Rattle.sp_isa.specs.declared.instr.Instr.TheVariants.{Mov, Mvi, Inr, Dcr, Alu, AluImmediate, Lxi, Dad, Inx, Dcx, Stax, Ldax, Shld, Lhld, Sta, Lda, Rlc, Rrc, Ral, Rar, Daa, Cma, Stc, Cmc, Push, Pop, Jmp, Jcc, Call, Ccc, Ret, Rcc, Rst, Pchl, Sphl, Xthl, Xchg, In, Out, Nop, Ei, Di, Hlt}
 use Rattle.sp_isa.specs.Core.{Core, cell, with_reg, with_flag, with_cell, with_sp, with_pc, with_halted, advance}
 use Rattle.sp_isa.specs.Operands.{pair_of, with_pair, arg_of, with_arg}
-use Rattle.sp_isa.specs.Arithmetic.{alu, increase, decrease, add_pair, adjust, turn}
+use Rattle.sp_isa.specs.Arithmetic.{alu, increase, decrease, add_pair, adjust, rotate}
 use Rattle.sp_isa.specs.Stack.{push_pair, pop_pair, holds, call, ret, exchange_top, exchange_pairs}
 
 -- the core after an instruction, `input` being the byte that an IN takes
@@ -28,10 +28,10 @@ effect input (Shld w) core = advance 3 (with_cell (w + 1) core.h (with_cell w co
 effect input (Lhld w) core = advance 3 (with_reg reg.H (cell (w + 1) core) (with_reg reg.L (cell w core) core))
 effect input (Sta w) core = advance 3 (with_cell w core.a core)
 effect input (Lda w) core = advance 3 (with_reg reg.A (cell w core) core)
-effect input Rlc core = advance 1 (turn (2 * core.a % 256 + core.a / 128) (core.a / 128) core)
-effect input Rrc core = advance 1 (turn (core.a / 2 + 128 * (core.a % 2)) (core.a % 2) core)
-effect input Ral core = advance 1 (turn (2 * core.a % 256 + core.cy) (core.a / 128) core)
-effect input Rar core = advance 1 (turn (core.a / 2 + 128 * core.cy) (core.a % 2) core)
+effect input Rlc core = advance 1 (rotate (2 * core.a % 256 + core.a / 128) (core.a / 128) core)
+effect input Rrc core = advance 1 (rotate (core.a / 2 + 128 * (core.a % 2)) (core.a % 2) core)
+effect input Ral core = advance 1 (rotate (2 * core.a % 256 + core.cy) (core.a / 128) core)
+effect input Rar core = advance 1 (rotate (core.a / 2 + 128 * core.cy) (core.a % 2) core)
 effect input Daa core = advance 1 (adjust core)
 effect input Cma core = advance 1 (with_reg reg.A (255 - core.a) core)
 effect input Stc core = advance 1 (with_flag loc.Cy 1 core)

@@ -1,4 +1,4 @@
--- What stands behind the first byte of a code.
+-- What comes after the first byte of a code. Only the proof of the encoder speaks of it.
 use Rattle.std.specs.Prelude.{ℕ, List, [], ◌∷◌}
 use Rattle.sp_isa.specs.Code.{bytes_of}
 use Rattle.sp_isa.specs.declared.encoding.Operand.{Operand}

@@ -6,5 +6,8 @@ pub mod Effect
 pub mod Encoding
 pub mod Locations
 pub mod Operands
+pub mod Outcome
 pub mod Stack
 pub mod Step
+pub mod Sums
+pub mod Undoing

@@ -52,13 +52,13 @@ holds when.Pe core = core.p == 1
 holds when.P core = core.s == 0
 holds when.M core = core.s == 1
 
--- the address behind an instruction of this length
-abbrev pub behind : ℕ → Core → ℕ
-behind length core = (core.pc + length) % 65536
+-- the address after an instruction of this length
+abbrev pub address_after : ℕ → Core → ℕ
+address_after length core = (core.pc + length) % 65536
 
--- a call of an address by an instruction of this length: the address behind it goes onto the stack
+-- a call of an address by an instruction of this length: the address after it goes onto the stack
 unfoldable pub call : ℕ → ℕ → Core → Core
-call length w core = with_pc w (push (behind length core / 256) (behind length core % 256) core)
+call length w core = with_pc w (push (address_after length core / 256) (address_after length core % 256) core)
 
 -- a return: PC takes the word on the stack, and SP goes up by 2
 unfoldable pub ret : Core → Core

@@ -1,5 +1,5 @@
 ghost use Rattle.std.specs.Prelude.{◌≡◌, ◌<◌, slice_index};
-ghost use Rattle.sp_isa.specs.Decode.{coded_load, coded_turn, coded_low, coded_pop, coded_jump, coded_push, coded_high, coded_move, form, decode as decoded, DecodesTheTable, DecodesCodes, NoCodeBeginsAnother, NothingDecodes};
+ghost use Rattle.sp_isa.specs.Decode.{coded_load, coded_accumulator, coded_low, coded_pop, coded_jump, coded_push, coded_high, coded_move, form, decode as decoded};
 
 use crate::Instr;
 use crate::fields::{arg_of_code, cond_of_code, op_of_code, pair_of_code, stack_of_code};
@@ -23,8 +23,8 @@ fn load_of(y: u8) -> Instr
 }
 
 /// The first bytes 00yyy111.
-fn turn_of(y: u8) -> Instr
-    ensures { result ≡ coded_turn y }
+fn accumulator_of(y: u8) -> Instr
+    ensures { result ≡ coded_accumulator y }
 {
     match y {
         0 => Instr::Rlc,
@@ -56,7 +56,7 @@ fn low_of(y: u8, z: u8) -> Option<Instr>
         4 => Some(Instr::Inr(arg_of_code(y))),
         5 => Some(Instr::Dcr(arg_of_code(y))),
         6 => Some(Instr::Mvi(arg_of_code(y), 0)),
-        _ => Some(turn_of(y)),
+        _ => Some(accumulator_of(y)),
     }
 }
 
@@ -151,23 +151,3 @@ pub fn decode(bytes: [u8; 3]) -> Option<(Instr, u8)>
     let form = form_of(bytes[0])?;
     Some(with_operand(form, bytes[1], word))
 }
-
-/// Three bytes begin with a valid instruction exactly where `decode` gives it, with its length.
-pub fn decode_is_the_table()
-    ensures { DecodesTheTable }
-{}
-
-/// Decoding a valid instruction's code, followed by anything, gives it back with its length.
-pub fn codes_decode()
-    ensures { DecodesCodes }
-{}
-
-/// No valid instruction's code begins another's.
-pub fn no_code_begins_another()
-    ensures { NoCodeBeginsAnother }
-{}
-
-/// Nothing decodes exactly where the first byte is one of the twelve that no instruction has.
-pub fn unused_bytes_decode_to_nothing()
-    ensures { NothingDecodes }
-{}

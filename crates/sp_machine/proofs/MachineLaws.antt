@@ -5,7 +5,7 @@ use Rattle.sp_base.specs.declared.location.Loc.{Loc}
 use Rattle.sp_base.specs.declared.location.Loc.TheVariants as loc
 use Rattle.sp_isa.specs.Core.{Core, at, limit, IsCore}
 use Rattle.sp_isa.specs.Step.{step}
-use Rattle.sp_isa.proofs.CoreLaws.{steps_keep_cores}
+use Rattle.sp_isa.proofs.CoreLemmas.{steps_keep_cores}
 use Rattle.sp_machine.specs.declared.machine.Machine.TheInside.{Inside}
 use Rattle.sp_machine.specs.Machine.{core_of, IsMachine}
 

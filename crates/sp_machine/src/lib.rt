@@ -1,6 +1,7 @@
 //! The 8080 as a machine that runs: registers, flags, the stack pointer, the program counter and 65,536 cells of memory.
 #![tactic(auto)]
 
+mod accumulator;
 mod arithmetic;
 mod event;
 mod execute;
@@ -10,7 +11,6 @@ mod operands;
 mod stack;
 mod step;
 mod transfer;
-mod turns;
 
 pub use event::Event;
 pub use laws::events_tell_the_ports;

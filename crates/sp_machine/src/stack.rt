@@ -110,8 +110,8 @@ impl Machine {
     pub(crate) fn call(&mut self, length: u16, w: u16)
         ensures { self.new ≡ call length w self.old }
     {
-        let behind = self.pc().wrapping_add(length);
-        self.push((behind / 256) as u8, (behind % 256) as u8);
+        let after = self.pc().wrapping_add(length);
+        self.push((after / 256) as u8, (after % 256) as u8);
         self.set_pc(w);
     }
 

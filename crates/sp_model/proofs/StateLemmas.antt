@@ -10,7 +10,7 @@ use Rattle.sp_isa.specs.Core.{Core, IsCore}
 use Rattle.sp_isa.specs.Code.{operand}
 use Rattle.sp_isa.specs.Effect.{takes_input, gives_output}
 use Rattle.sp_isa.specs.Step as processor
-use Rattle.sp_isa.proofs.CoreLaws.{effects_keep_cores, instr_at_bytes, only_byte}
+use Rattle.sp_isa.proofs.CoreLemmas.{effects_keep_cores, instr_at_bytes, only_byte}
 use Rattle.sp_model.specs.State.{State, IsState, next_instr, next_input, executed, step, run, RunsCompose, StepsExecute, StoppedStatesStay, StepsKeepStates}
 
 pub runs_compose : RunsCompose

@@ -1,5 +1,0 @@
-use Rattle.sp_isa.proofs.CodeLaws.{nothing_decodes}
-use Rattle.sp_isa.proofs.decoding.unused_bytes_decode_to_nothing.Goals as goal
-
-pub returns : goal.returns
-returns c = nothing_decodes

@@ -1,5 +1,0 @@
-use Rattle.sp_isa.proofs.LocationLaws.{depends_only_on_uses}
-use Rattle.sp_isa.proofs.writing.writes_depend_on_reads_alone.Goals as goal
-
-pub returns : goal.returns
-returns c = depends_only_on_uses
