@@ -1,6 +1,7 @@
 -- Programs of one routine: all their runs, one that is bad, and the return at the end.
 use Rattle.std.proofs.Common.{◌≡◌, ℕ, zero, suc, ◌+◌, ◌*◌, ◌%◌, ◌<◌, Bool, false, List, [], ◌∷◌, refl, sym, ap, subst, ◌∙◌, arith, Some, ◌⊎◌, inl, inr}
 use Rattle.std.specs.Prelude.{All, Contains, slice_index}
+use Rattle.std.specs.List.{AllByRecursion}
 use Rattle.sp_base.specs.Image.{ImageMap}
 use Rattle.sp_base.specs.declared.location.Loc.{Loc}
 use Rattle.sp_base.specs.declared.location.Loc.TheVariants as loc
@@ -24,6 +25,11 @@ pub two_of : {A : Type 0} (P : A → Type 0) (x y : A) → P x → P y → (z : 
 two_of P x y p q z (zero, less, is) = subst P is p
 two_of P x y p q z (suc zero, less, is) = subst P is q
 two_of P x y p q z (suc (suc k), less, is) = absurd (omega arith)
+
+pub each : {A : Type 0} (P : A → Type 0) (xs : List A) → AllByRecursion P xs → (y : A) → Contains xs y → P y
+each P [] h y there = absurd (omega (arith, there.1))
+each P (x ∷ xs) h y (zero, less, is) = subst P is h.0
+each P (x ∷ xs) h y (suc k, less, is) = each P xs h.1 y (k, omega arith, is)
 
 pub later : {A : Type 0} (x y : A) (xs : List A) → Contains xs y → Contains (x ∷ xs) y
 later x y xs (k, less, is) = (suc k, omega arith, is)

@@ -205,7 +205,7 @@ call_run depth s deep entry =
     not_top : ◌≡◌ {A = ℕ} 0x23FE 0x2400 → ⊥
     not_top h = omega arith
 
-caller_entry : (depth : ℕ) → IsEntry (both depth) (caller depth) (ready cells 0x110 0)
+pub caller_entry : (depth : ℕ) → IsEntry (both depth) (caller depth) (ready cells 0x110 0)
 caller_entry depth = record {
   state = ready_state cells 0x110 0 refl (lit< tt) (lit< tt);
   loaded = ready_loaded cells 0x110 0 refl refl;

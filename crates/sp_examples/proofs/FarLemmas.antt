@@ -19,9 +19,9 @@ use Rattle.sp_examples.specs.Units.{alone, bytes_of}
 use Rattle.sp_examples.specs.States.{ready}
 use Rattle.sp_examples.proofs.RunLemmas.{step_quiet, IsGoodFrom, goes}
 use Rattle.sp_examples.proofs.KeepsLemmas.{keeps_itself, keeps_still, keeps_written, loaded_written, cell_apart}
-use Rattle.sp_examples.proofs.EntryLemmas.{fetch, low_image, placed, memory_long, ready_state, ready_loaded}
+use Rattle.sp_examples.proofs.EntryLemmas.{state_of_bytes, fetch, low_image, placed, memory_long, ready_loaded}
 use Rattle.sp_examples.proofs.GoodLemmas.{HasNoAsserts, Says, good_step, good_away, not_return, step_ret, back, unasserted}
-use Rattle.sp_examples.proofs.AloneLemmas.{one_of, all_alone, finish, word_kept, loaded_still}
+use Rattle.sp_examples.proofs.AloneLemmas.{each, one_of, all_alone, finish, word_kept, loaded_still}
 use Rattle.sp_base.specs.declared.pair.Pair.TheVariants as pair
 use Rattle.sp_examples.specs.Units.{far}
 use Rattle.sp_examples.proofs.PushLemmas.{pushed_cells, word_on}
@@ -151,15 +151,18 @@ far_good = all_alone (far 0x105) (λ s entry.
     (word_kept t v s.core.sp (stays 0x105 s s.core.sp (omega arith) (omega arith) (omega arith)) (stays 0x105 s (s.core.sp + 1) (omega arith) (omega arith) (omega arith)))
     (All-nil (Says u r t (back v))) (λ x out. unlisted 0x105 s x out)))
 
-pub far_entry : IsEntry (alone (far 0x106)) (far 0x106) (ready (cells 0x106) 0x100 0x2380)
-far_entry = record {
-  state = ready_state (cells 0x106) 0x100 0x2380 refl (lit< tt) (lit< tt);
-  loaded = ready_loaded (cells 0x106) 0x100 0x2380 refl refl;
+pub far_entry : (w : ℕ) → w < 65536 → IsEntry (alone (far w)) (far w) (ready (cells w) 0x100 0x2380)
+far_entry w small = record {
+  state = state_of_bytes (cells w) 0x100 0x2380 (lit< tt, (omega arith, (omega arith, (lit< tt, (lit< tt, (lit< tt, tt)))))) (lit< tt) (lit< tt);
+  loaded = ready_loaded (cells w) 0x100 0x2380 refl refl;
   begins = refl;
   running = refl;
-  pre = All-nil (Says (alone (far 0x106)) (far 0x106) (ready (cells 0x106) 0x100 0x2380) (ready (cells 0x106) 0x100 0x2380));
+  pre = All-nil (Says (alone (far w)) (far w) (ready (cells w) 0x100 0x2380) (ready (cells w) 0x100 0x2380));
   room = λ h. record { below = lit≤ tt; above = lit≤ tt };
 }
+
+abbrev bad_entry : IsEntry (alone (far 0x106)) (far 0x106) (ready (cells 0x106) 0x100 0x2380)
+bad_entry = far_entry 0x106 (lit< tt)
 
 -- at 106H stands no instruction of the program
 pub far_bad : ¬ AllRunsAreGood (alone (far 0x106))
@@ -167,34 +170,18 @@ far_bad good =
     let r : Routine = far 0x106 in
     let u : Unit = alone r in
     let s : State = ready (cells 0x106) 0x100 0x2380 in
-    let parts = ran 0x106 s (lit≤ tt) (lit< tt) far_entry.loaded in
-    let one : run s 1 ≡ aimed 0x106 s = aims 0x106 s far_entry.loaded in
+    let parts = ran 0x106 s (lit≤ tt) (lit< tt) bad_entry.loaded in
+    let one : run s 1 ≡ aimed 0x106 s = aims 0x106 s bad_entry.loaded in
     let two : run s 2 ≡ put 0x106 s = ap step one ∙ puts 0x106 s parts.first in
     let three : run s 3 ≡ landed 0x106 s = ap step two ∙ lands 0x106 s (lit< tt) (memory_long (cells 0x106)) (lit≤ tt) (lit< tt) parts.second in
-    let after = subst (IsGoodAt u r s) three (good r (0, lit< tt, refl) s far_entry 3 3 (lit≤ tt) (λ k less. stays_in k less one two (fetches_push 0x106 s parts.first))) in
+    let after = subst (IsGoodAt u r s) three (good r (0, lit< tt, refl) s bad_entry 3 3 (lit≤ tt) (λ k less. stays_in k less one two (fetches_push 0x106 s parts.first))) in
     one_of (λ (q : Routine). (i : Stmt) → Contains q.code i → i.address ≡ 0x106 → ⊥) r (λ i there. not_there i there) after.in_code.0 after.in_code.1 after.in_code.2.0 after.in_code.2.1 after.in_code.2.2
   where
     not_there : (i : Stmt) → Contains (far 0x106).code i → i.address ≡ 0x106 → ⊥
-    not_there i (zero, less, is) h = no_100 (ap (λ (i : Stmt). i.address) is ∙ h)
-      where
-        no_100 : ◌≡◌ {A = ℕ} 0x100 0x106 → ⊥
-        no_100 h = omega arith
-    not_there i (suc zero, less, is) h = no_103 (ap (λ (i : Stmt). i.address) is ∙ h)
-      where
-        no_103 : ◌≡◌ {A = ℕ} 0x103 0x106 → ⊥
-        no_103 h = omega arith
-    not_there i (suc (suc zero), less, is) h = no_104 (ap (λ (i : Stmt). i.address) is ∙ h)
-      where
-        no_104 : ◌≡◌ {A = ℕ} 0x104 0x106 → ⊥
-        no_104 h = omega arith
-    not_there i (suc (suc (suc zero)), less, is) h = no_105 (ap (λ (i : Stmt). i.address) is ∙ h)
-      where
-        no_105 : ◌≡◌ {A = ℕ} 0x105 0x106 → ⊥
-        no_105 h = omega arith
-    not_there i (suc (suc (suc (suc k))), less, is) h = omega arith
+    not_there = each (λ i. i.address ≡ 0x106 → ⊥) (far 0x106).code ((λ h. omega arith), ((λ h. omega arith), ((λ h. omega arith), ((λ h. omega arith), tt))))
 
     stays_in : (k : ℕ) → k < 3 → run (ready (cells 0x106) 0x100 0x2380) 1 ≡ aimed 0x106 (ready (cells 0x106) 0x100 0x2380) → run (ready (cells 0x106) 0x100 0x2380) 2 ≡ put 0x106 (ready (cells 0x106) 0x100 0x2380) → next_instr (aimed 0x106 (ready (cells 0x106) 0x100 0x2380)).core ≡ Some (Push stack.B, 1) → ¬ IsReturnStep (alone (far 0x106)) (far 0x106) (ready (cells 0x106) 0x100 0x2380) (run (ready (cells 0x106) 0x100 0x2380) k)
-    stays_in zero less one two is = not_return (alone (far 0x106)) (far 0x106) (ready (cells 0x106) 0x100 0x2380) (ready (cells 0x106) 0x100 0x2380) (Lxi pair.B 0x106) 3 (fetches_lxi 0x106 (ready (cells 0x106) 0x100 0x2380) far_entry.loaded) refl
+    stays_in zero less one two is = not_return (alone (far 0x106)) (far 0x106) (ready (cells 0x106) 0x100 0x2380) (ready (cells 0x106) 0x100 0x2380) (Lxi pair.B 0x106) 3 (fetches_lxi 0x106 (ready (cells 0x106) 0x100 0x2380) bad_entry.loaded) refl
     stays_in (suc zero) less one two is = λ h. not_return (alone (far 0x106)) (far 0x106) (ready (cells 0x106) 0x100 0x2380) (aimed 0x106 (ready (cells 0x106) 0x100 0x2380)) (Push stack.B) 1 is refl (subst (IsReturnStep (alone (far 0x106)) (far 0x106) (ready (cells 0x106) 0x100 0x2380)) one h)
     stays_in (suc (suc zero)) less one two is = λ h. not_top (subst (IsReturnStep (alone (far 0x106)) (far 0x106) (ready (cells 0x106) 0x100 0x2380)) two h).at_base
       where

@@ -32,7 +32,7 @@ ret_cells = bytes_of (run_on (line 0x101 Ret ∷ [])).code
 abbrev gone_on : State → State
 gone_on s = record s { core = record s.core { pc = 0x101; halted = false } }
 
-off_entry : IsEntry (alone (run_on [])) (run_on []) (ready nop_cells 0x100 0x2380)
+pub off_entry : IsEntry (alone (run_on [])) (run_on []) (ready nop_cells 0x100 0x2380)
 off_entry = record {
   state = ready_state nop_cells 0x100 0x2380 refl (lit< tt) (lit< tt);
   loaded = ready_loaded nop_cells 0x100 0x2380 refl refl;
@@ -58,6 +58,16 @@ off_bad good =
     one_of (λ (q : Routine). (i : Stmt) → Contains q.code i → i.address ≡ 0x101 → ⊥) r
     (one_of (λ (i : Stmt). i.address ≡ 0x101 → ⊥) (line 0x100 Nop) (λ h. omega arith))
     after.in_code.0 after.in_code.1 after.in_code.2.0 after.in_code.2.1 after.in_code.2.2
+
+pub on_entry : IsEntry (alone (run_on (line 0x101 Ret ∷ []))) (run_on (line 0x101 Ret ∷ [])) (ready ret_cells 0x100 0x2380)
+on_entry = record {
+  state = ready_state ret_cells 0x100 0x2380 refl (lit< tt) (lit< tt);
+  loaded = ready_loaded ret_cells 0x100 0x2380 refl refl;
+  begins = refl;
+  running = refl;
+  pre = All-nil (Says (alone (run_on (line 0x101 Ret ∷ []))) (run_on (line 0x101 Ret ∷ [])) (ready ret_cells 0x100 0x2380) (ready ret_cells 0x100 0x2380));
+  room = λ h. record { below = lit≤ tt; above = lit≤ tt };
+}
 
 on_run : (s : State) → IsEntry (alone (run_on (line 0x101 Ret ∷ []))) (run_on (line 0x101 Ret ∷ [])) (placed s 0x100) → IsGoodFrom (alone (run_on (line 0x101 Ret ∷ []))) (run_on (line 0x101 Ret ∷ [])) (placed s 0x100) (placed s 0x100)
 on_run s entry =
@@ -101,7 +111,7 @@ jumps w s small loaded =
     step_quiet (placed s 0x100) (Jmp w) 3 refl (fetches_jmp w s loaded) refl refl
     ∙ ap (λ pc. record s { core = record s.core { pc = pc; halted = false } }) same
 
-hop_entry : (w : ℕ) (asserts : List Note) → w < 65536 → IsEntry (both w asserts) (hop w) (ready (hop_cells w) 0x100 0x2380)
+pub hop_entry : (w : ℕ) (asserts : List Note) → w < 65536 → IsEntry (both w asserts) (hop w) (ready (hop_cells w) 0x100 0x2380)
 hop_entry w asserts small = record {
   state = state_of_bytes (hop_cells w) 0x100 0x2380 (lit< tt, (omega arith, (omega arith, (lit< tt, tt)))) (lit< tt) (lit< tt);
   loaded = ready_loaded (hop_cells w) 0x100 0x2380 refl refl;

@@ -38,7 +38,7 @@ marked_cells w = refl
 only_there : (a byte : ℕ) → maps.get (maps.from_sorted {R = nat_cmp} cells) a ≡ Some byte → a ≡ 0x100
 only_there a byte there = let high = high_image 0x100 cells refl refl a byte there in let low = low_image 0x101 cells refl refl a byte there in omega arith
 
-entry : (w : ℕ) → w ≢ 0x100 → IsEntry (alone (watch w)) (watch w) (marked w)
+pub entry : (w : ℕ) → w ≢ 0x100 → IsEntry (alone (watch w)) (watch w) (marked w)
 entry w other = record {
   state = state_of_bytes ((w, 1) ∷ cells) 0x100 0x2380 (lit< tt, (lit< tt, tt)) (lit< tt) (lit< tt);
   loaded = loaded_apart (maps.from_sorted cells) (ready cells 0x100 0x2380) (marked w) w 1 (λ a byte there. let is = only_there a byte there in (omega arith, λ h. other (sym h ∙ is))) (marked_cells w) (ready_loaded cells 0x100 0x2380 refl refl);

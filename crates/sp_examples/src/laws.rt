@@ -12,7 +12,7 @@ ghost use Rattle.sp_model.specs.Note.{Note};
 ghost use Rattle.sp_model.specs.State.{State, IsState, next_instr, run, step};
 ghost use Rattle.sp_model.specs.Unit.{Area, Routine, Unit};
 ghost use Rattle.sp_examples.specs.States.{elsewhere, end_cells, left, ready, stopped, with_a, with_input, with_output, with_sp, with_z};
-ghost use Rattle.sp_examples.specs.Units.{IsEntryOf, IsFree, IsGoodOf, MayLeave, ReturnsAt, RunIsGood, a_is, alone, begin, calling, entered, far, finish, given, guard, hop, hopping, line, load, only, push, pushed_word, run_on, send, store, take, watch, write};
+ghost use Rattle.sp_examples.specs.Units.{IsEntryOf, IsFree, IsGoodOf, MayLeave, ReturnsAt, RunIsGood, a_is, alone, begin, bytes_of, caller, calling, entered, far, finish, given, guard, hop, hopping, landing, line, load, only, push, pushed_word, run_on, send, store, take, watch, write};
 
 /// `STA w` is good exactly where an area listed as changed has the cell w, whatever areas are listed as read.
 pub fn stores_are_listed()
@@ -65,6 +65,24 @@ pub fn entries_have_room()
         → IsEntryOf (push depth []) (entered (push depth []) sp) ↔ ((0x2300 + depth ≤ sp) × (sp + 1 ≤ 0x23FF)) }
     ensures start { (depth sp w : ℕ) → w < 65536 → sp < 65536
         → IsEntryOf (write true depth w) (entered (write true depth w) sp) }
+{}
+
+/// Each program here is entered in some state, so that nothing is said of it for want of an entry.
+pub fn programs_are_entered()
+    ensures store { (w : ℕ) (reads areas : List Area) → w < 65536
+        → IsEntryOf (store w reads areas) (entered (store w reads areas) 0x2380) }
+    ensures send { (ins outs : List ℕ) → IsEntryOf (send ins outs) (entered (send ins outs) 0x2380) }
+    ensures take { (ins outs : List ℕ) → IsEntryOf (take ins outs) (entered (take ins outs) 0x2380) }
+    ensures load { (reads changes : List Loc) (post asserts : List Note)
+        → IsEntryOf (load reads changes post asserts) (entered (load reads changes post asserts) 0x2380) }
+    ensures watch { (w : ℕ) → w ≢ 0x100 → IsEntryOf (watch w) (ready ((w, 1) ∷ bytes_of (watch w).code) 0x100 0x2380) }
+    ensures far { (w : ℕ) → w < 65536 → IsEntryOf (far w) (entered (far w) 0x2380) }
+    ensures ended { IsEntryOf (run_on (line 0x101 Ret ∷ [])) (entered (run_on (line 0x101 Ret ∷ [])) 0x2380) }
+    ensures unended { IsEntryOf (run_on []) (entered (run_on []) 0x2380) }
+    ensures hop { (w : ℕ) (asserts : List Note) → w < 65536
+        → IsEntry (hopping w asserts) (hop w) (ready (bytes_of ((hop w).code ++ (landing asserts).code)) 0x100 0x2380) }
+    ensures caller { (depth : ℕ)
+        → IsEntry (calling depth) (caller depth) (ready (bytes_of ((push 2 []).code ++ (caller depth).code)) 0x110 0) }
 {}
 
 /// A state is no entry without the image, at another address, halted, or with a part out of its range. The state that is
