@@ -5,6 +5,7 @@ pub mod DeclaredLaws
 pub mod DefinitionLemmas
 pub mod ElementLaws
 pub mod FaultLaws
+pub mod ListingLemmas
 pub mod MeaningLemmas
 pub mod NameLaws
 pub mod OperandLaws

@@ -14,6 +14,9 @@ mod rows;
 mod values;
 
 pub use assembler::assemble;
-pub use laws::{a_source_has_one_assembly, causes_are_one, names_have_meanings};
+pub use laws::{
+    a_source_has_one_assembly, causes_are_one, images_hold_their_items, listings_hold_their_items,
+    names_have_meanings,
+};
 pub use listing::{Item, ItemKind, Items, Listing};
 pub use refusal::{AsmKind, AsmRefusal};
