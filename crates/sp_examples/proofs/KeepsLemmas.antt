@@ -9,7 +9,7 @@ use Rattle.sp_isa.specs.declared.instr.Instr.TheVariants.{Mvi}
 use Rattle.sp_isa.specs.Code.{code, operand, opcode, valid}
 use Rattle.sp_isa.specs.Core.{Core, cell}
 use Rattle.sp_isa.specs.Decode.{decode, decode_front}
-use Rattle.sp_isa.proofs.CodeLaws.{decodes_codes}
+use Rattle.sp_isa.proofs.CodeLemmas.{decodes_codes}
 use Rattle.sp_model.specs.State.{State, next_instr}
 use Rattle.sp_model.specs.Unit.{Area, Routine, Unit}
 use Rattle.sp_model.specs.Good.{Keeps, Loaded, InArea, InAllotment, base}
