@@ -1,16 +1,16 @@
 -- What a line holds is what it is: a data record, an end record, or neither.
-use Rattle.std.proofs.Common.{◌≡◌, ◌⊎◌, ℕ, suc, ◌+◌, ◌-◌, ◌*◌, ◌/◌, ◌%◌, ◌<◌, ◌≤◌, Bool, true, false, cond, eqb, leb, ◌&&◌, List, [], ◌∷◌, ◌++◌, length, take, sum, refl, sym, ap, subst, ◌∙◌, inl, inr, Option, Some, None, Result, Ok, Err, arith}
+use Rattle.std.proofs.Common.{◌≡◌, ◌⊎◌, ℕ, suc, ◌+◌, ◌-◌, ◌*◌, ◌/◌, ◌%◌, ◌<◌, ◌≤◌, Bool, true, false, cond, eqb, leb, ltb, ◌&&◌, List, [], ◌∷◌, ◌++◌, length, take, sum, refl, sym, ap, subst, ◌∙◌, inl, inr, Option, Some, None, Result, Ok, Err, arith}
 use Rattle.std.specs.Prelude.{unwrap_or, option_map, option_and_then}
 use Rattle.std.specs.List.{AllByRecursion}
 use Rattle.std.proofs.Math.Seq.{take-append_seam}
 use Rattle.std.proofs.lemmas.List.{length_push, nil_from_length}
-use Rattle.std.proofs.lemmas.Bool.{cases_Bool, le-leb, leb-true, eq-eqb, eqb-true, eqb-false, and_parts, cond-true, cond-false}
+use Rattle.std.proofs.lemmas.Bool.{cases_Bool, lt-ltb, le-ltb, le-leb, leb-true, eq-eqb, eqb-true, eqb-false, and_parts, cond-true, cond-false}
 use Rattle.sp_base.specs.declared.line.Line.{Line}
 use Rattle.sp_base.specs.Cells.{Data}
 use Rattle.sp_base.specs.declared.refused.Refused.TheVariants as refused
 use Rattle.sp_hex.specs.declared.refusal.HexKind.TheVariants as hex
 use Rattle.sp_hex.specs.Refusals.{HexRefusal}
-use Rattle.sp_hex.specs.Hex.{fields, data_type, end_type, digit_value, byte_of, bytes_of, line_bytes, HasForm, HasSum, IsDataLine, IsEndLine}
+use Rattle.sp_hex.specs.Hex.{digit, fields, data_type, end_type, digit_value, byte_of, bytes_of, line_bytes, HasForm, HasSum, IsDataLine, IsEndLine}
 use Rattle.sp_hex.specs.code.Reading.{Content, data_record, end_record, ◌>>=◌, content_with, content_of, with_sum, or_bad_record, held_at, record_at}
 
 -- ---- Small things
@@ -37,6 +37,40 @@ digit_below c v h = elim (chosen (leb 48 c && leb c 57) (Some (c - 48)) _ (Some 
     | inl p ↦ let q = and_parts (leb 65 c) (leb c 70) p.0 in omega (arith, some_is _ _ p.1, leb-true _ _ q.0, leb-true _ _ q.1)
     | inr s ↦ elim (chosen (leb 97 c && leb c 102) (Some (c - 87)) None (Some v) s.1) [
       | inl p ↦ let q = and_parts (leb 97 c) (leb c 102) p.0 in omega (arith, some_is _ _ p.1, leb-true _ _ q.0, leb-true _ _ q.1)
+      | inr t ↦ absurd (not_none v None t.1 refl)
+    ]
+  ]
+]
+
+add_back : (k c v : ℕ) → k ≤ c → c - k ≡ v → k + v ≡ c
+add_back k c v low e = omega (arith, e)
+
+add_back_lower : (c v : ℕ) → 97 ≤ c → c - 87 ≡ v → 55 + v + 32 ≡ c
+add_back_lower c v low e = omega (arith, e)
+
+upper_of : (c v : ℕ) → 48 ≤ c → c ≤ 57 → c - 48 ≡ v → (v < 16) × ((c ≡ digit v) ⊎ ((10 ≤ v) × (c ≡ digit v + 32)))
+upper_of c v low high e =
+    let less : v < 10 = omega (arith, e) in
+    (omega (arith, less), inl (sym (cond-true (ltb v 10) (48 + v) (55 + v) (lt-ltb v 10 less) ∙ add_back 48 c v low e)))
+
+-- the values of digits, and no others
+pub digit_only : (c v : ℕ) → digit_value c ≡ Some v → (v < 16) × ((c ≡ digit v) ⊎ ((10 ≤ v) × (c ≡ digit v + 32)))
+digit_only c v h = elim (chosen (leb 48 c && leb c 57) (Some (c - 48)) _ (Some v) h) [
+  | inl p ↦ let q = and_parts (leb 48 c) (leb c 57) p.0 in upper_of c v (leb-true _ _ q.0) (leb-true _ _ q.1) (some_is _ _ p.1)
+  | inr r ↦ elim (chosen (leb 65 c && leb c 70) (Some (c - 55)) _ (Some v) r.1) [
+    | inl p ↦
+        let q = and_parts (leb 65 c) (leb c 70) p.0 in
+        let e = some_is _ _ p.1 in
+        let more : 10 ≤ v = omega (arith, e, leb-true _ _ q.0) in
+        (omega (arith, e, leb-true _ _ q.1), inl (sym (cond-false (ltb v 10) (48 + v) (55 + v) (le-ltb v 10 more) ∙ add_back 55 c v (omega (arith, leb-true _ _ q.0)) e)))
+    | inr s ↦ elim (chosen (leb 97 c && leb c 102) (Some (c - 87)) None (Some v) s.1) [
+      | inl p ↦
+          let q = and_parts (leb 97 c) (leb c 102) p.0 in
+          let e = some_is _ _ p.1 in
+          let more : 10 ≤ v = omega (arith, e, leb-true _ _ q.0) in (
+            omega (arith, e, leb-true _ _ q.1),
+            inr (more, sym (ap (λ n. n + 32) (cond-false (ltb v 10) (48 + v) (55 + v) (le-ltb v 10 more)) ∙ add_back_lower c v (leb-true _ _ q.0) e)),
+          )
       | inr t ↦ absurd (not_none v None t.1 refl)
     ]
   ]

@@ -1,17 +1,15 @@
 -- The cells of an image by rising address, and the records that they are written in.
-use Rattle.std.proofs.Common.{◌≡◌, ◌⊎◌, ℕ, suc, ◌+◌, ◌<◌, ◌≤◌, Bool, true, false, ◌&&◌, T, eqb, ltb, List, [], ◌∷◌, ◌++◌, length, refl, sym, ap, subst, ◌∙◌, inl, inr, Some, None, arith, append_assoc}
-use Rattle.std.specs.Prelude.{filter, nat_le}
-use Rattle.std.proofs.lemmas.Bool.{cases_lt, cases_eq, cases_order, le-leb, lt-leb, le-ltb, lt-ltb, eq-eqb, ne_eqb, and_left, and_right, and_from, cond-true, cond-false, cases_Bool, eqb-true, ltb-true, ltb-false, false≢true}
+use Rattle.std.proofs.Common.{◌≡◌, ◌⊎◌, ℕ, suc, ◌+◌, ◌<◌, ◌≤◌, Bool, true, false, ◌&&◌, eqb, ltb, List, [], ◌∷◌, ◌++◌, length, refl, sym, ap, subst, ◌∙◌, inl, inr, Some, arith, append_assoc}
+use Rattle.std.specs.Prelude.{Vec, vec_len}
+use Rattle.std.specs.declared.alloc.Global.{Global}
+use Rattle.std.proofs.lemmas.Bool.{cases_eq, le-ltb, lt-ltb, eq-eqb, ne_eqb, and_left, and_right, and_from, cond-true, cond-false, cases_Bool, eqb-true, eqb-false, ltb-true, ltb-false, false≢true}
 use Rattle.std.proofs.lemmas.List.{append-nil, length_push}
-use Rattle.std.specs.Ordering.{nat_cmp, is_lt}
-use Rattle.std.specs.List.{flat_map, AllByRecursion}
+use Rattle.std.specs.List.{AllByRecursion}
 use Rattle.std.specs.FinMap as maps
-use Rattle.std.specs.FinMap.{find, is_sorted}
-use Rattle.std.specs.FinMap.Entries.{below_all}
-use Rattle.sp_base.specs.Image.{ImageMap, NextByte, NoByteFrom}
+use Rattle.sp_base.specs.Image.{ImageMap}
 use Rattle.sp_hex.specs.Hex.{AreFull, AreWritten, records_from, records_of, written_record, data_type, end_type, text}
-use Rattle.sp_hex.specs.code.Rows.{rising, AreNext, IsRow}
-use Rattle.sp_base.proofs.FindLaws.{Cells, here, other, some_is_not_none, order_parts, less}
+use Rattle.sp_hex.specs.code.Rows.{data_text, records_with}
+use Rattle.sp_base.proofs.FindLaws.{Cells}
 use Rattle.sp_base.specs.Cells.{Data, cells_at, cells_of}
 
 -- ---- Small things
@@ -28,111 +26,13 @@ one_more a n = omega arith
 shift : (a n m : ℕ) → m ≡ n + 1 → a + n + 1 ≡ a + m
 shift a n m e = omega arith
 
--- ---- The cells from an address on
-
-abbrev from : ℕ → Cells → Cells
-from a = filter (λ c. nat_le a c.0)
-
-from_zero : (cells : Cells) → from 0 cells ≡ cells
-from_zero [] = refl
-from_zero (c ∷ cells) = rw (le-leb 0 c.0 (omega arith)) (ap (λ (x : Cells). c ∷ x) (from_zero cells))
-
--- what is not found behind the first cell either
-not_behind : (q : ℕ) (c : ℕ × ℕ) (cells : Cells) → find nat_cmp q (c ∷ cells) ≡ None → find nat_cmp q cells ≡ None
-not_behind q c cells none = elim (cases_eq q c.0) [
-  | inl same ↦ absurd (some_is_not_none c.1 _ (here c cells) (subst (λ k. find nat_cmp k (c ∷ cells) ≡ None) same none))
-  | inr ne ↦ sym (other q c cells ne) ∙ none
-]
-
-pub none_from : (a : ℕ) (cells : Cells) → ((q : ℕ) → a ≤ q → find nat_cmp q cells ≡ None) → from a cells ≡ []
-none_from a [] none = refl
-none_from a (c ∷ cells) none = elim (cases_lt c.0 a) [
-  | inl lt ↦ rw (lt-leb a c.0 lt) (none_from a cells (λ q le. not_behind q c cells (none q le)))
-  | inr le ↦ absurd (some_is_not_none c.1 _ (here c cells) (none c.0 le))
-]
-
-pub none_between : (a b : ℕ) (cells : Cells) → a ≤ b → ((q : ℕ) → a ≤ q → q < b → find nat_cmp q cells ≡ None) → from a cells ≡ from b cells
-none_between a b [] le none = refl
-none_between a b (c ∷ cells) le none =
-    let rest = none_between a b cells le (λ q low high. not_behind q c cells (none q low high)) in
-    elim (cases_lt c.0 a) [
-      | inl lt ↦ rw (lt-leb a c.0 lt, lt-leb b c.0 (omega arith)) rest
-      | inr low ↦ elim (cases_lt c.0 b) [
-        | inl high ↦ absurd (some_is_not_none c.1 _ (here c cells) (none c.0 low high))
-        | inr past ↦ rw (le-leb a c.0 low, le-leb b c.0 past) (ap (λ (x : Cells). c ∷ x) rest)
-      ]
-    ]
-
--- in order, no cell behind others has an address of theirs
-not_above : (q a : ℕ) (cells : Cells) → q ≤ a → T (below_all nat_cmp a cells) → find nat_cmp q cells ≡ None
-not_above q a [] le above = refl
-not_above q a (c ∷ cells) le above =
-    let p = order_parts (is_lt (nat_cmp a c.0)) (below_all nat_cmp a cells) above in
-    let lt : a < c.0 = less a c.0 p.0 in
-    other q c cells (λ e. absurd (omega arith)) ∙ not_above q a cells le p.1
-
--- the cell at an address is the first from there on
-pub cell_from : (a byte : ℕ) (cells : Cells) → T (is_sorted nat_cmp cells) → find nat_cmp a cells ≡ Some byte → from a cells ≡ (a, byte) ∷ from (a + 1) cells
-cell_from a byte [] sorted found = absurd (some_is_not_none byte None found refl)
-cell_from a byte (c ∷ cells) sorted found =
-    let p = order_parts (below_all nat_cmp c.0 cells) (is_sorted nat_cmp cells) sorted in
-    elim (cases_order a c.0) [
-      | inl same ↦
-          let value : c.1 ≡ byte = some_is (sym (here c cells) ∙ subst (λ k. find nat_cmp k (c ∷ cells) ≡ Some byte) same found) in
-          let none = λ (q : ℕ) (low : a ≤ q) (high : q < a + 1). not_above q c.0 cells (omega arith) p.0 in
-          rw (le-leb a c.0 (omega arith), lt-leb (a + 1) c.0 (omega arith))
-          (λ i. (sym same i, value i) ∷ none_between a (a + 1) cells (omega arith) none i)
-      | inr apart ↦ elim apart [
-        | inl lt ↦ absurd (some_is_not_none byte _ found (other a c cells (λ e. absurd (omega arith)) ∙ not_above a c.0 cells (omega arith) p.0))
-        | inr gt ↦
-            rw (lt-leb a c.0 gt, lt-leb (a + 1) c.0 (omega arith))
-            (cell_from a byte cells p.1 (sym (other a c cells (λ e. absurd (omega arith))) ∙ found))
-      ]
-    ]
-
--- ---- The same of an image
-
-pub rising_zero : (image : ImageMap) → rising image 0 ≡ maps.entries image
-rising_zero image = from_zero (maps.entries image)
-
-pub rising_none : (image : ImageMap) (a : ℕ) → NoByteFrom image a → rising image a ≡ []
-rising_none image a none = none_from a (maps.entries image) (λ q le. sym (maps.get-entries image q) ∙ none q le)
-
-pub rising_to : (image : ImageMap) (a : ℕ) (next : ℕ × ℕ) → NextByte image a next → rising image a ≡ rising image next.0
-rising_to image a next h = none_between a next.0 (maps.entries image) h.from_there (λ q low high. sym (maps.get-entries image q) ∙ h.least q low high)
-
-pub rising_at : (image : ImageMap) (a byte : ℕ) → maps.get image a ≡ Some byte → rising image a ≡ (a, byte) ∷ rising image (a + 1)
-rising_at image a byte there = cell_from a byte (maps.entries image) (maps.entries_sorted image) (sym (maps.get-entries image a) ∙ there)
-
--- ---- Rows
+-- ---- Cells of records
 
 cells_push : (a : ℕ) (bytes : List ℕ) (byte : ℕ) (rest : Cells) → cells_at a (bytes ++ byte ∷ []) ++ rest ≡ cells_at a bytes ++ (a + length bytes, byte) ∷ rest
 cells_push a [] byte rest = λ i. (add_nothing a i, byte) ∷ rest
 cells_push a (b ∷ bytes) byte rest = λ i. (a, b) ∷ (cells_push (a + 1) bytes byte rest ∙ ap (λ k. cells_at (a + 1) bytes ++ (k, byte) ∷ rest) (one_more a (length bytes))) i
 
-pub AreNext-first : (image : ImageMap) (a byte : ℕ) → maps.get image a ≡ Some byte → AreNext image a (byte ∷ [])
-AreNext-first image a byte there = record {
-  some = omega arith;
-  few = omega arith;
-  front = rising_at image a byte there;
-}
-
-pub AreNext-push : (image : ImageMap) (a : ℕ) (bytes : List ℕ) (byte : ℕ) → AreNext image a bytes → length bytes < 16 → maps.get image (a + length bytes) ≡ Some byte → AreNext image a (bytes ++ byte ∷ [])
-AreNext-push image a bytes byte h lt there =
-    let len : length (bytes ++ byte ∷ []) ≡ length bytes + 1 = length_push bytes byte in
-    record {
-      some = omega (arith, h.some, len);
-      few = omega (arith, len);
-      front = h.front ∙ ap (λ (x : Cells). cells_at a bytes ++ x) (rising_at image (a + length bytes) byte there)
-          ∙ sym (cells_push a bytes byte (rising image (a + length bytes + 1)))
-          ∙ ap (λ k. cells_at a (bytes ++ byte ∷ []) ++ rising image k) (shift a (length bytes) _ len);
-    }
-
 -- ---- Records
-
--- the text of data records
-abbrev pub data_text : List Data → List ℕ
-data_text = flat_map (λ d. written_record data_type d.address d.bytes)
 
 -- the cells begin with one at this address
 abbrev pub BeginsAt : Cells → ℕ → Type 0
@@ -169,41 +69,58 @@ records-row a [] rest some few ends = absurd (omega arith)
 records-row a (b ∷ bytes) rest some few ends =
     fill a (b ∷ []) bytes rest (omega arith) ∙ stop (record { address = a; bytes = b ∷ bytes }) rest ends
 
-not_begun : (a b : ℕ) (cells : Cells) → find nat_cmp b cells ≡ None → ¬ (BeginsAt (from a cells) b)
-not_begun a b [] none h = h
-not_begun a b (c ∷ cells) none h = elim (cases_lt c.0 a) [
-  | inl lt ↦ not_begun a b cells (not_behind b c cells none) (rw (lt-leb a c.0 lt) at h)
-  | inr le ↦
-      let same : c.0 ≡ b = rw (le-leb a c.0 le) at h in
-      some_is_not_none c.1 _ (here c cells) (subst (λ k. find nat_cmp k (c ∷ cells) ≡ None) (sym same) none)
-]
-
-pub records-IsRow : (image : ImageMap) (a : ℕ) (bytes : List ℕ) → IsRow image a bytes → records_of (rising image a) ≡ record { address = a; bytes = bytes } ∷ records_of (rising image (a + length bytes))
-records-IsRow image a bytes h =
-    ap records_of h.next.front ∙ records-row a bytes (rising image (a + length bytes)) h.next.some h.next.few (elim h.full [
-      | inl full ↦ inl full
-      | inr none ↦ inr (not_begun (a + length bytes) (a + length bytes) (maps.entries image) (sym (maps.get-entries image _) ∙ none))
-    ])
-
 -- ---- Writing
 
--- a record more is written
-pub write_step : (image : ImageMap) (a b k : ℕ) (bytes old new total : List ℕ) → rising image a ≡ rising image b → IsRow image b bytes → k ≡ b + length bytes → new ≡ old ++ written_record data_type b bytes
-    → old ++ data_text (records_of (rising image a)) ≡ total → new ++ data_text (records_of (rising image k)) ≡ total
-write_step image a b k bytes old new total to row at put so_far =
-    ap (λ (x : List ℕ). x ++ data_text (records_of (rising image k))) put
-    ∙ append_assoc old (written_record data_type b bytes) (data_text (records_of (rising image k)))
-    ∙ ap (λ (x : List ℕ). old ++ x) (ap (λ n. written_record data_type b bytes ++ data_text (records_of (rising image n))) at
-    ∙ ap data_text (sym (records-IsRow image b bytes row)) ∙ ap (λ (x : Cells). data_text (records_of x)) (sym to))
-    ∙ so_far
+pub filled : (v : Vec ℕ Global) → eqb (vec_len v) 0 ≡ false → ¬ (length v.items ≡ 0)
+filled v some e = eqb-false (vec_len v) 0 some (v.ok.0 ∙ e)
+
+pub not_filled : (v : Vec ℕ Global) → eqb (vec_len v) 0 ≡ true → length v.items ≡ 0
+not_filled v none = sym v.ok.0 ∙ eqb-true (vec_len v) 0 none
+
+-- the first byte begins a record
+pub first_taken : (a address byte : ℕ) (row new out : List ℕ) (cells : Cells) → length row ≡ 0 → new ≡ row ++ byte ∷ []
+    → out ++ data_text (records_with a new cells) ≡ out ++ data_text (records_with address row ((a, byte) ∷ cells))
+first_taken a address byte [] new out cells none is = ap (λ (r : List ℕ). out ++ data_text (records_with a r cells)) is
+first_taken a address byte (b ∷ row) new out cells none is = absurd (omega arith)
+
+-- a byte joins the record
+pub one_joined : (a address byte : ℕ) (row new out : List ℕ) (cells : Cells) → ¬ (length row ≡ 0) → (eqb a (address + length row) && ltb (length row) 16) ≡ true → new ≡ row ++ byte ∷ []
+    → out ++ data_text (records_with address new cells) ≡ out ++ data_text (records_with address row ((a, byte) ∷ cells))
+unfolding records_from
+one_joined a address byte [] new out cells some joined is = absurd (some refl)
+one_joined a address byte (b ∷ row) new out cells some joined is =
+    ap (λ (r : List ℕ). out ++ data_text (records_with address r cells)) is
+    ∙ ap (λ (x : List Data). out ++ data_text x) (sym (cond-true _ (records_from (record { address = address; bytes = b ∷ (row ++ byte ∷ []) }) cells) _ joined))
+
+-- a record is written, and another begun
+pub one_written : (a address byte : ℕ) (row new old out : List ℕ) (cells : Cells) → ¬ (length row ≡ 0) → (eqb a (address + length row) && ltb (length row) 16) ≡ false
+    → new ≡ byte ∷ [] → out ≡ old ++ written_record data_type address row
+    → out ++ data_text (records_with a new cells) ≡ old ++ data_text (records_with address row ((a, byte) ∷ cells))
+unfolding records_from
+one_written a address byte [] new old out cells some apart is put = absurd (some refl)
+one_written a address byte (b ∷ row) new old out cells some apart is put =
+    let rest = data_text (records_of ((a, byte) ∷ cells)) in
+    ap (λ (r : List ℕ). out ++ data_text (records_with a r cells)) is ∙ ap (λ (o : List ℕ). o ++ rest) put
+    ∙ append_assoc old (written_record data_type address (b ∷ row)) rest
+    ∙ ap (λ (x : List Data). old ++ data_text x) (sym (cond-false _ _ (record { address = address; bytes = b ∷ row } ∷ records_of ((a, byte) ∷ cells)) apart))
+
+-- the last record, if one is begun
+pub last_written : (image : ImageMap) (address : ℕ) (row old out : List ℕ) → ¬ (length row ≡ 0) → out ≡ old ++ written_record data_type address row
+    → old ++ data_text (records_with address row []) ≡ data_text (records_of (maps.entries image)) → out ≡ data_text (records_of (maps.entries image))
+unfolding records_from
+last_written image address [] old out some put so_far = absurd (some refl)
+last_written image address (b ∷ row) old out some put so_far =
+    put ∙ ap (λ (x : List ℕ). old ++ x) (sym (append-nil (written_record data_type address (b ∷ row)))) ∙ so_far
+
+pub none_written : (image : ImageMap) (address : ℕ) (row old : List ℕ) → length row ≡ 0
+    → old ++ data_text (records_with address row []) ≡ data_text (records_of (maps.entries image)) → old ≡ data_text (records_of (maps.entries image))
+none_written image address [] old none so_far = sym (append-nil old) ∙ so_far
+none_written image address (b ∷ row) old none so_far = absurd (omega arith)
 
 -- all records are written
-pub write_end : (image : ImageMap) (a : ℕ) (old new : List ℕ) → NoByteFrom image a → new ≡ old ++ written_record end_type 0 []
-    → old ++ data_text (records_of (rising image a)) ≡ data_text (records_of (maps.entries image)) → new ≡ text image
+pub write_end : (image : ImageMap) (old new : List ℕ) → new ≡ old ++ written_record end_type 0 [] → old ≡ data_text (records_of (maps.entries image)) → new ≡ text image
 unfolding text
-write_end image a old new none put so_far =
-    let all : old ≡ data_text (records_of (maps.entries image)) = sym (append-nil old) ∙ ap (λ (x : Cells). old ++ data_text (records_of x)) (sym (rising_none image a none)) ∙ so_far in
-    put ∙ ap (λ (x : List ℕ). x ++ written_record end_type 0 []) all
+write_end image old new put all = put ∙ ap (λ (x : List ℕ). x ++ written_record end_type 0 []) all
 
 -- ---- The written form
 

@@ -342,3 +342,51 @@ one_of t (Err refused.Memory) h = absurd h
 
 pub always_one : (t : List ℕ) → ((image : ImageMap) × StandsFor t image) ⊎ ((number : ℕ) × (kind : HexKind) × IsCause t number kind)
 always_one t = one_of t (reading 1 maps.empty (lines t)) (reading_answers t)
+
+-- ---- What reading shows of a text
+
+pub stands_by : (t : List ℕ) (image : ImageMap) → reading 1 maps.empty (lines t) ≡ Ok image → StandsFor t image
+stands_by t image e = subst (IsAnswer t) e (reading_answers t)
+
+pub cause_by : (t : List ℕ) (number : ℕ) (kind : HexKind) → reading 1 maps.empty (lines t) ≡ Err (at_line number kind) → IsCause t number kind
+cause_by t number kind e = subst (IsAnswer t) e (reading_answers t)
+
+line_holds : (line : List ℕ) (held : Content) → record_at 1 line ≡ Ok held → Tells 1 line (Ok held)
+line_holds line held e = subst (Tells 1 line) e (record_tells 1 line)
+
+-- a text of one data record
+pub one_stands : (t line last : List ℕ) (after : Texts) (d : Data) → lines t ≡ line ∷ last ∷ after → record_at 1 line ≡ Ok (data_record d) → record_at 1 last ≡ Ok end_record
+    → AllByRecursion (λ l. l ≡ []) after → NoneTwice (d ∷ []) → StandsFor t (map_of (cells_of (d ∷ [])))
+one_stands t line last after d whole held ends empty apart = record {
+  before = line ∷ [];
+  last = last;
+  after = after;
+  records = d ∷ [];
+  whole = whole;
+  each = (line_holds line (data_record d) held, tt);
+  ended = line_holds last end_record ends;
+  empty = All-from_recursion (λ l. l ≡ []) after empty;
+  apart = apart;
+  exact = refl;
+}
+
+-- a text that gives one record twice
+pub twice_wrong : (t line : List ℕ) (after : Texts) (d : Data) → lines t ≡ line ∷ line ∷ after → record_at 1 line ≡ Ok (data_record d) → NoneTwice (d ∷ []) → ¬ (NoneTwice (d ∷ d ∷ []))
+    → IsCause t 2 hex.Overlap
+twice_wrong t line after d whole held apart twice = record {
+  line = line;
+  records = d ∷ [];
+  last = d;
+  reached = record { before = line ∷ []; after = after; whole = whole; place = refl; each = (line_holds line (data_record d) held, tt); apart = apart };
+  right = line_holds line (data_record d) held;
+  broken = twice;
+}
+
+-- a text of one data record and no end record
+pub open_wrong : (t line : List ℕ) (d : Data) → lines t ≡ line ∷ [] → record_at 1 line ≡ Ok (data_record d) → NoneTwice (d ∷ []) → IsCause t 0 hex.NoEnd
+open_wrong t line d whole held apart = record {
+  records = d ∷ [];
+  each = subst (λ (ls : Texts). AllZip IsDataLine ls (d ∷ [])) (sym whole) (line_holds line (data_record d) held, tt);
+  apart = apart;
+  place = refl;
+}

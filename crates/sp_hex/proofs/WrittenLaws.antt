@@ -1,5 +1,5 @@
 -- The text of an image stands for it, and what is cut from its end doesn't.
-use Rattle.std.proofs.Common.{◌≡◌, ◌≢◌, ℕ, zero, suc, ◌+◌, ◌-◌, ◌*◌, ◌/◌, ◌%◌, ◌<◌, ◌≤◌, false, T, eqb, List, [], ◌∷◌, ◌++◌, length, map, take, drop, get_or, sum, refl, sym, ap, subst, ◌∙◌, inl, inr, Some, None, arith, append_assoc, length-append}
+use Rattle.std.proofs.Common.{◌≡◌, ◌≢◌, ℕ, zero, suc, ◌+◌, ◌-◌, ◌*◌, ◌/◌, ◌%◌, ◌<◌, ◌≤◌, false, T, eqb, ltb, List, [], ◌∷◌, ◌++◌, length, map, take, drop, get_or, sum, refl, sym, ap, subst, ◌∙◌, inl, inr, Some, None, arith, append_assoc, length-append}
 use Rattle.std.specs.Prelude.{nat_eq, option_map}
 use Rattle.std.specs.List.{AllByRecursion, AllZip, IsDistinct, flat_map}
 use Rattle.std.specs.Str.Lines.{strip_carriage_return}
@@ -18,7 +18,8 @@ use Rattle.sp_base.proofs.LineLemmas.{rows_of-feed, rows_of-last}
 use Rattle.sp_base.specs.Image.{ImageMap, IsInMemory, AreCells}
 use Rattle.sp_hex.specs.Hex.{fields, data_type, end_type, digit_value, byte_of, bytes_of, line_bytes, IsDataLine, IsEndLine, StandsFor, digit, two_digits, checksum_of, written_record, records_of, text}
 use Rattle.sp_hex.proofs.RecordLaws.{AreBytes, then_some, map_some, chosen, some_is, not_none}
-use Rattle.sp_hex.proofs.RowLaws.{data_text, written_made}
+use Rattle.sp_hex.proofs.RowLaws.{written_made}
+use Rattle.sp_hex.specs.code.Rows.{data_text}
 use Rattle.sp_base.proofs.FindLaws.{order_parts, less}
 use Rattle.sp_base.specs.Cells.{Data, cells_at, cells_of}
 
@@ -30,11 +31,26 @@ less_back k v = omega arith
 halves_back : (b : ℕ) → 16 * (b / 16) + b % 16 ≡ b
 halves_back b = omega arith
 
-digit_back : (v : ℕ) → v < 16 → digit_value (digit v) ≡ Some v
+pub digit_back : (v : ℕ) → v < 16 → digit_value (digit v) ≡ Some v
 digit_back v lt = elim (cases_lt v 10) [
   | inl low ↦ rw (lt-ltb v 10 low, le-leb 48 (48 + v) (omega arith), le-leb (48 + v) 57 (omega arith)) (ap (λ (n : ℕ). Some n) (less_back 48 v))
   | inr high ↦ rw (le-ltb v 10 high, le-leb 48 (55 + v) (omega arith), lt-leb (55 + v) 57 (omega arith), le-leb 65 (55 + v) (omega arith), le-leb (55 + v) 70 (omega arith)) (ap (λ (n : ℕ). Some n) (less_back 55 v))
 ]
+
+lower_back : (v : ℕ) → 55 + v + 32 - 87 ≡ v
+lower_back v = omega arith
+
+pub digit_lower : (v : ℕ) → 10 ≤ v → v < 16 → digit_value (digit v + 32) ≡ Some v
+digit_lower v high lt =
+    ap (λ n. digit_value (n + 32)) (cond-false (ltb v 10) (48 + v) (55 + v) (le-ltb v 10 high))
+    ∙ rw (
+      le-leb 48 (55 + v + 32) (omega arith),
+      lt-leb (55 + v + 32) 57 (omega arith),
+      le-leb 65 (55 + v + 32) (omega arith),
+      lt-leb (55 + v + 32) 70 (omega arith),
+      le-leb 97 (55 + v + 32) (omega arith),
+      le-leb (55 + v + 32) 102 (omega arith),
+    ) (ap (λ (n : ℕ). Some n) (lower_back v))
 
 byte_back : (b : ℕ) → b < 256 → byte_of (digit (b / 16)) (digit (b % 16)) ≡ Some b
 byte_back b lt = rw (digit_back (b / 16) (omega arith), digit_back (b % 16) (omega arith)) (ap (λ (n : ℕ). Some n) (halves_back b))

@@ -9,7 +9,10 @@ mod record;
 mod refusal;
 mod writing;
 
-pub use laws::{one_answer, one_loading, written_form, written_text};
+pub use laws::{
+    digits_have_values, one_answer, one_loading, small_texts_have_causes, small_texts_have_images,
+    written_form, written_text,
+};
 pub use loading::load;
 pub use reading::read;
 pub use refusal::{HexKind, HexRefusal};

@@ -1,8 +1,7 @@
-ghost use Rattle.std.specs.Prelude.{◌≡◌, ◌<◌, ◌++◌, length, IfOk, OnOk};
-ghost use Rattle.std.specs.FinMap as maps;
+ghost use Rattle.std.specs.Prelude.{◌≡◌, ◌<◌, ◌≤◌, ◌+◌, ◌++◌, ◌∷◌, ◌==◌, ◌&&◌, ℕ, List, nat_lt, length, vec_len, IfOk, OnOk};
 ghost use Rattle.std.specs.List.{flat_map};
-ghost use Rattle.sp_hex.specs.Hex.{digit, two_digits, checksum_of, written_record, text};
-ghost use Rattle.sp_hex.specs.code.Rows.{IsRow};
+ghost use Rattle.sp_hex.specs.Hex.{digit, two_digits, checksum_of, written_record, text, StandsFor};
+ghost use Rattle.sp_hex.specs.code.Rows.{data_text, records_with};
 
 use crate::record::{DATA, END, low_sum};
 use sp_base::{Image, Memory};
@@ -63,34 +62,50 @@ fn put_record(out: &mut Vec<u8>, kind: u8, address: u16, bytes: &[u8]) -> Result
     Ok(())
 }
 
-/// The bytes of the record that begins with the byte at an address.
-fn row_at(alloc: Global, image: &Image, address: u16, first: u8) -> Result<Vec<u8>, Memory>
-    requires { maps.get image.now address ≡ Some first }
-    ensures { IfOk result (λ bytes. IsRow image.now address bytes.items) }
+/// Whether the byte at `a` joins a record: it stands right after its bytes, which are fewer than 16.
+fn joins(address: u16, row: &[u8], a: u16) -> bool
+    requires { length row.now ≤ 16 }
+    ensures { result ≡ ((a == address + length row.now) && nat_lt (length row.now) 16) }
 {
-    let mut bytes = Vec::with_capacity(alloc, ROW)?;
-    bytes.push(first)?;
-    while bytes.len() < ROW {
-        let from = u32::from(address) + bytes.len() as u32;
-        match image.next(from) {
-            Some((a, byte)) if u32::from(a) == from => bytes.push(byte)?,
-            _ => break,
-        }
+    u32::from(a) == u32::from(address) + row.len() as u32 && row.len() < ROW
+}
+
+/// Takes the next byte into the record of `row`, which begins at `address`, or writes that record and begins another.
+/// It answers where the record then begins.
+fn take(out: &mut Vec<u8>, row: &mut Vec<u8>, address: u16, a: u16, byte: u8) -> Result<u16, Memory>
+    requires { vec_len row.old ≤ 16 }
+    ensures text { IfOk result (λ first. (cells : List (ℕ × ℕ)) → out.new.items ++ data_text (records_with first row.new.items cells)
+        ≡ out.old.items ++ data_text (records_with address row.old.items ((a, byte) ∷ cells))) }
+    ensures few { OnOk result (vec_len row.new ≤ 16) }
+{
+    if row.is_empty() {
+        row.push(byte)?;
+        return Ok(a);
     }
-    Ok(bytes)
+    if joins(address, row, a) {
+        row.push(byte)?;
+        return Ok(address);
+    }
+    put_record(out, DATA, address, row)?;
+    row.clear();
+    row.push(byte)?;
+    Ok(a)
 }
 
 /// The text of an image: data records by rising address, of 16 bytes where the run of bytes goes on, and the
 /// end record. Digits are upper case, and each line ends in LF.
 pub fn write(alloc: Global, image: &Image) -> Result<Vec<u8>, Memory>
-    ensures { IfOk result (λ v. v.items ≡ text image.now) }
+    ensures text { IfOk result (λ v. v.items ≡ text image.now) }
+    ensures stands { IfOk result (λ v. StandsFor v.items image.now) }
 {
     let mut out = Vec::new(alloc);
-    let mut from = 0u32;
-    while let Some((address, first)) = image.next(from) {
-        let bytes = row_at(alloc, image, address, first)?;
-        put_record(&mut out, DATA, address, &bytes)?;
-        from = u32::from(address) + bytes.len() as u32;
+    let mut row = Vec::with_capacity(alloc, ROW)?;
+    let mut address = 0;
+    for (a, byte) in image.cells() {
+        address = take(&mut out, &mut row, address, *a, *byte)?;
+    }
+    if !row.is_empty() {
+        put_record(&mut out, DATA, address, &row)?;
     }
     put_record(&mut out, END, 0, &[])?;
     Ok(out)

@@ -1,20 +1,14 @@
--- The records of an image one by one, as the writer takes them. No public contract cites this.
-use Rattle.std.specs.Prelude.{◌≡◌, ◌⊎◌, ℕ, ◌+◌, ◌<◌, ◌≤◌, nat_le, List, ◌++◌, length, filter, None}
-use Rattle.std.specs.FinMap as maps
-use Rattle.sp_base.specs.Image.{ImageMap}
-use Rattle.sp_base.specs.Cells.{cells_at}
+-- Records of an image as the writer begins and ends them. No public contract cites this.
+use Rattle.std.specs.Prelude.{ℕ, List, [], ◌∷◌}
+use Rattle.std.specs.List.{flat_map}
+use Rattle.sp_base.specs.Cells.{Data}
+use Rattle.sp_hex.specs.Hex.{data_type, records_from, records_of, written_record}
 
--- the cells of an image from an address on, by rising address
-abbrev pub rising : ImageMap → ℕ → List (ℕ × ℕ)
-rising image from = filter (λ c. nat_le from c.0) (maps.entries image)
+-- the text of data records
+abbrev pub data_text : List Data → List ℕ
+data_text = flat_map (λ d. written_record data_type d.address d.bytes)
 
--- the bytes from an address on, up to 16 of them
-pub record AreNext (image : ImageMap) (address : ℕ) (bytes : List ℕ) : Type 0 where
-  pub some : 0 < length bytes
-  pub few : length bytes ≤ 16
-  pub front : rising image address ≡ cells_at address bytes ++ rising image (address + length bytes)
-
--- these bytes are all that a record can have there: 16, or those before a gap
-pub record IsRow (image : ImageMap) (address : ℕ) (bytes : List ℕ) : Type 0 where
-  pub next : AreNext image address bytes
-  pub full : (length bytes ≡ 16) ⊎ (maps.get image (address + length bytes) ≡ None)
+-- the records of cells, after a record that is begun at an address with these bytes; no bytes begin none
+abbrev pub records_with : ℕ → List ℕ → List (ℕ × ℕ) → List Data
+records_with address [] cells = records_of cells
+records_with address (byte ∷ bytes) cells = records_from (record { address = address; bytes = byte ∷ bytes }) cells
