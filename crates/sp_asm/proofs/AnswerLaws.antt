@@ -5,7 +5,7 @@ use Rattle.sp_base.specs.declared.refused.Refused.{Refused}
 use Rattle.sp_base.specs.declared.refused.Refused.TheVariants as refused
 use Rattle.sp_base.specs.Refused.{Answers, IsUnlessMemory}
 use Rattle.sp_lex.specs.declared.token.SourceLine.{SourceLine}
-use Rattle.sp_lex.specs.Reading.{AreLines}
+use Rattle.sp_lex.proofs.SourceLemmas.{one_reading}
 use Rattle.sp_stmt.specs.declared.refusal.StatementKind.{StatementKind}
 use Rattle.sp_stmt.specs.declared.refusal.StatementKind.TheVariants as unread
 use Rattle.sp_stmt.specs.declared.statement.Statement.{Statement}
@@ -105,9 +105,6 @@ module _ (source : List ℕ) (lines : List SourceLine) where
   answered result h = record { whole = whole_by result h; exact = exact_by result h }
 
 -- ---- Sources
-
-one_reading : (source : List ℕ) (one other : List SourceLine) → AreLines source one → AreLines source other → one ≡ other
-one_reading source one other h k = cc
 
 pub one_of_source : (source : List ℕ) (one other : List Row) → HasAssembly source one → HasAssembly source other → one ≡ other
 one_of_source source one other h k =

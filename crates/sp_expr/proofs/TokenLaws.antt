@@ -5,9 +5,8 @@ use Rattle.std.specs.List.{AllByRecursion}
 use Rattle.std.proofs.lemmas.List.Elements.{All-from_recursion}
 use Rattle.sp_lex.specs.declared.token.Token.{Token}
 use Rattle.sp_lex.specs.declared.token.SourceLine.{SourceLine}
-use Rattle.sp_lex.specs.Reading.{AreLines, rows_of}
-use Rattle.sp_lex.specs.Standing.{IsTokenOf, HaveTokensOf, is_annotation}
-use Rattle.sp_lex.proofs.StandingLaws.{lines_spelled, rows_tokens, rows_whole}
+use Rattle.sp_lex.specs.Reading.{AreLines, IsTokenOf, HaveTokensOf, is_annotation}
+use Rattle.sp_lex.proofs.TokenLemmas.{have_tokens}
 use Rattle.sp_expr.specs.Words.{IsIn, AreIn}
 use Rattle.std.proofs.Common.{Bool}
 
@@ -30,5 +29,4 @@ line_in source (first ∷ lines) (suc i) found e h = line_in source lines i foun
 
 -- so they may be handed to `parse`
 pub tokens_are_in : (source : List ℕ) (lines : List SourceLine) (i : ℕ) (found : SourceLine) → AreLines source lines → slice_get lines i ≡ Some found → AreIn source found.tokens
-tokens_are_in source lines i found are at =
-    line_in source lines i found at (rows_tokens 0 source [] (rows_of source) lines (sym (rows_whole source)) refl (lines_spelled 1 0 (rows_of source) lines are))
+tokens_are_in source lines i found are at = line_in source lines i found at (have_tokens source lines are)

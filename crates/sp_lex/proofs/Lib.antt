@@ -1,7 +1,11 @@
-pub mod CutLaws
+pub mod CutLemmas
+pub mod FaultLemmas
+pub mod FormLemmas
 pub mod ItemLemmas
-pub mod NumberLaws
-pub mod PieceLaws
-pub mod ReadingLaws
-pub mod StandingLaws
-pub mod TextLaws
+pub mod LineLemmas
+pub mod NumberLemmas
+pub mod PieceLemmas
+pub mod ReadingLemmas
+pub mod SourceLemmas
+pub mod TextLemmas
+pub mod TokenLemmas

@@ -1,9 +1,11 @@
 pub mod Bytes
+pub mod Examples
 pub mod Names
 pub mod Numbers
 pub mod Pieces
 pub mod Readers
 pub mod Reading
 pub mod Refusal
-pub mod Standing
 pub mod Texts
+pub mod Tokens
+pub mod code

@@ -1,120 +1,129 @@
--- The lines of a source.
-use Rattle.std.specs.Prelude.{◌≡◌, ℕ, ◌+◌, ◌-◌, Bool, true, false, ◌==◌, nat_lt, nat_eq, if◌then◌else◌, List, [], ◌∷◌, length, take, drop, slice_index, Option, Some, None, Result, Ok, Err, codes, ⊤}
-use Rattle.std.specs.List.{prefix_len, starts_with}
+-- The lines of a source with their tokens, and the lowest line that breaks a rule (8080 Assembly Language Programming Manual,
+-- "Assembly language instruction format"; annotation lines, the END line as the last, and the limit of 4,096 bytes are this
+-- project's own).
+use Rattle.std.specs.Prelude.{◌≡◌, ◌⊎◌, ℕ, ◌+◌, ◌<◌, ◌≤◌, Bool, true, false, IsTrue, List, [], ◌∷◌, ◌++◌, length, codes, ⊤}
+use Rattle.std.specs.List.{list_all, slice_range, AllByRecursion}
 use Rattle.sp_lex.specs.declared.refusal.TextKind.{TextKind}
-use Rattle.sp_lex.specs.declared.refusal.TextKind.TheVariants.{LongLine, BadByte, OpenQuote, BadNumber}
-use Rattle.sp_lex.specs.declared.refusal.LexRefusal.{LexRefusal}
-use Rattle.sp_lex.specs.declared.refusal.LexRefusal.TheVariants as lex
-use Rattle.sp_lex.specs.declared.refusal.LineRefusal.{LineRefusal}
-use Rattle.sp_lex.specs.declared.refusal.LineRefusal.TheVariants as line
+use Rattle.sp_lex.specs.declared.refusal.TextKind.TheVariants.{LongLine}
 use Rattle.sp_lex.specs.declared.token.LineKind.{LineKind}
 use Rattle.sp_lex.specs.declared.token.LineKind.TheVariants.{Empty, Statement, Annotation}
+use Rattle.sp_lex.specs.declared.token.TokenKind.TheVariants.{Name}
 use Rattle.sp_lex.specs.declared.token.Token.{Token}
 use Rattle.sp_lex.specs.declared.token.SourceLine.{SourceLine}
-use Rattle.sp_lex.specs.Bytes.{is_blank, is_name_byte}
-use Rattle.sp_lex.specs.Names.{is_end_word}
-use Rattle.sp_lex.specs.Pieces.{Cut, cuts, fault_in, tokens_in}
+use Rattle.sp_lex.specs.Bytes.{is_blank}
+use Rattle.sp_lex.specs.Names.{folded}
+use Rattle.sp_lex.specs.Pieces.{Cut, AreCut, tokens_from, SomeBreaks}
+use Rattle.sp_lex.specs.Refusal.{rank_of}
+use Rattle.sp_base.specs.Lines.{Row, rows_of, line_of, size_of}
+use Rattle.sp_lex.specs.Tokens.{IsToken, IsLongest}
 
--- the bytes of a line, and whether a line feed ends it
-pub record Row : Type 0 where
-  pub bytes : List ℕ
-  pub ended : Bool
+-- ---- One line
 
-abbrev pub row : List ℕ → Bool → Row
-row bytes ended = record { bytes = bytes; ended = ended }
+-- blanks and `;#`, with which an annotation line begins
+abbrev pub IsMarker : List ℕ → Type 0
+IsMarker front = (blanks : List ℕ) × (front ≡ blanks ++ codes ";#") × IsTrue (list_all is_blank blanks)
 
--- a byte at the front of the first row
-abbrev pub in_front : ℕ → List Row → List Row
-in_front byte [] = row (byte ∷ []) false ∷ []
-in_front byte (first ∷ rows) = row (byte ∷ first.bytes) first.ended ∷ rows
+abbrev pub IsAnnotation : List ℕ → Type 0
+IsAnnotation line = (front body : List ℕ) × IsMarker front × (line ≡ front ++ body)
 
--- the rows of a text: what stands before each line feed, 10, and behind the last one, where that isn't empty
-unfoldable pub rows_of : List ℕ → List Row
-rows_of [] = []
-rows_of (byte ∷ bytes) = if byte == 10 then row [] true ∷ rows_of bytes else in_front byte (rows_of bytes)
+-- a line is divided into what stands before its tokens, and the bytes that are cut into pieces
+abbrev pub IsDivided : Bool → List ℕ → List ℕ → List ℕ → Type 0
+IsDivided true line front body = IsMarker front × (line ≡ front ++ body)
+IsDivided false line front body = (front ≡ []) × (line ≡ body) × ¬ IsAnnotation line
 
--- a carriage return, 13, before a line feed belongs to the line's end
-abbrev pub without_return : List ℕ → List ℕ
-without_return bytes = if slice_index bytes (length bytes - 1) == 13 then take (length bytes - 1) bytes else bytes
+-- these are the pieces of a line, after this front
+pub record ArePiecesOf (annotation : Bool) (line front : List ℕ) (cuts : List Cut) : Type 0 where
+  pub body : List ℕ
+  pub divided : IsDivided annotation line front body
+  pub cut : AreCut annotation body cuts
 
--- the bytes of a line without its end
-abbrev pub line_of : Row → List ℕ
-line_of r = if r.ended then without_return r.bytes else r.bytes
+pub record HasBrokenPiece (line : List ℕ) (kind : TextKind) : Type 0 where
+  pub annotation : Bool
+  pub front : List ℕ
+  pub cuts : List Cut
+  pub pieces : ArePiecesOf annotation line front cuts
+  pub broken : SomeBreaks annotation cuts kind
 
--- how many bytes of the source a row has
-abbrev pub size_of : Row → ℕ
-size_of r = if r.ended then length r.bytes + 1 else length r.bytes
+-- a line breaks a rule in this way
+abbrev pub HasFault : List ℕ → TextKind → Type 0
+HasFault line LongLine = 4096 < length line
+HasFault line kind = HasBrokenPiece line kind
 
--- the line of these pieces, or what is wrong with it
-abbrev pub finished : LineKind → List Token → Option TextKind → Result SourceLine TextKind
-finished kind tokens None = Ok (record { kind = kind; tokens = tokens })
-finished kind tokens (Some fault) = Err fault
+-- a line breaks a rule in this way, and in none that comes before it in the order of kinds
+pub record IsFaultOf (line : List ℕ) (kind : TextKind) : Type 0 where
+  pub stands : HasFault line kind
+  pub first : (other : TextKind) → rank_of other < rank_of kind → ¬ HasFault line other
 
-abbrev pub kind_by : List Token → LineKind
-kind_by [] = Empty
-kind_by (token ∷ tokens) = Statement
+-- a line breaks no rule
+abbrev pub IsSound : List ℕ → Type 0
+IsSound line = (kind : TextKind) → ¬ HasFault line kind
 
-abbrev pub annotation_of : List Cut → Result SourceLine TextKind
-annotation_of cs = finished Annotation (tokens_in cs) (fault_in true None cs)
+-- a line is an END line: its first token is the word END
+pub record IsEndLine (line : List ℕ) : Type 0 where
+  pub blanks : List ℕ
+  pub word : List ℕ
+  pub rest : List ℕ
+  pub whole : line ≡ blanks ++ (word ++ rest)
+  pub blank : IsTrue (list_all is_blank blanks)
+  pub first : IsLongest false Name word rest
+  pub says : folded word ≡ codes "END"
 
-abbrev pub statement_of : List Cut → Result SourceLine TextKind
-statement_of cs = finished (kind_by (tokens_in cs)) (tokens_in cs) (fault_in false None cs)
+abbrev pub is_annotation : LineKind → Bool
+is_annotation Annotation = true
+is_annotation Statement = false
+is_annotation Empty = false
 
--- what bytes are behind the blanks that they begin with
-abbrev pub after_blanks : List ℕ → List ℕ
-after_blanks bytes = drop (prefix_len is_blank bytes) bytes
+-- a line without tokens is empty, unless it is an annotation
+abbrev pub HasKind : LineKind → List Token → Type 0
+HasKind Annotation tokens = ⊤
+HasKind Statement tokens = 0 < length tokens
+HasKind Empty tokens = tokens ≡ []
 
--- the line of these bytes, which stand from `at` on, or what is wrong with it
-unfoldable pub line_at : ℕ → List ℕ → Result SourceLine TextKind
-line_at at bytes =
-    if nat_lt 4096 (length bytes) then Err LongLine
-    else (if starts_with nat_eq (after_blanks bytes) (codes ";#") then annotation_of (cuts true (at + prefix_len is_blank bytes + 2) 0 (drop 2 (after_blanks bytes)))
-    else statement_of (cuts false at 0 bytes))
+-- these bytes, which stand from `at` on in the source, are this line
+pub record IsLine (at : ℕ) (bytes : List ℕ) (line : SourceLine) : Type 0 where
+  pub sound : IsSound bytes
+  pub front : List ℕ
+  pub cuts : List Cut
+  pub pieces : ArePiecesOf (is_annotation line.kind) bytes front cuts
+  pub tokens : line.tokens ≡ tokens_from (at + length front) cuts
+  pub kind : HasKind line.kind line.tokens
 
--- whether a line is an END line: its first word is END
-abbrev pub is_end_line : List ℕ → Bool
-is_end_line bytes = is_end_word (take (prefix_len is_name_byte (after_blanks bytes)) (after_blanks bytes))
+-- ---- A source
 
--- a fault with the number of its line
-pub record Fault : Type 0 where
-  pub kind : TextKind
-  pub line : ℕ
-
-abbrev pub with_first : SourceLine → Result (List SourceLine) Fault → Result (List SourceLine) Fault
-with_first first (Ok lines) = Ok (first ∷ lines)
-with_first first (Err fault) = Err fault
-
--- a line, and the lines below it unless it is an END line
-abbrev pub then_lines : ℕ → Bool → Result SourceLine TextKind → Result (List SourceLine) Fault → Result (List SourceLine) Fault
-then_lines number last (Err kind) below = Err (record { kind = kind; line = number })
-then_lines number true (Ok line) below = Ok (line ∷ [])
-then_lines number false (Ok line) below = with_first line below
-
--- the lines of rows, the first of which has this number and stands from `at` on in the source
-unfoldable pub lines_from : ℕ → ℕ → List Row → Result (List SourceLine) Fault
-lines_from number at [] = Ok []
-lines_from number at (first ∷ rows) =
-    then_lines number (is_end_line (line_of first)) (line_at at (line_of first)) (lines_from (number + 1) (at + size_of first) rows)
-
--- the lines of a source down to its END line, or the first fault
-abbrev pub lines_of : List ℕ → Result (List SourceLine) Fault
-lines_of source = lines_from 1 0 (rows_of source)
+-- these rows, which stand from `at` on in the source, are these lines, down to the END line or the last
+abbrev pub AreLinesFrom : ℕ → List Row → List SourceLine → Type 0
+AreLinesFrom at [] [] = ⊤
+AreLinesFrom at [] (line ∷ lines) = ⊥
+AreLinesFrom at (row ∷ rows) [] = ⊥
+AreLinesFrom at (row ∷ rows) (line ∷ lines) =
+    IsLine at (line_of row) line
+    × ((IsEndLine (line_of row) × (lines ≡ [])) ⊎ (¬ IsEndLine (line_of row) × AreLinesFrom (at + size_of row) rows lines))
 
 -- these are the lines of a source
-abbrev pub AreLines : List ℕ → List SourceLine → Type 0
-AreLines source lines = lines_of source ≡ Ok lines
+pub record AreLines (source : List ℕ) (lines : List SourceLine) : Type 0 where
+  pub all : AreLinesFrom 0 (rows_of source) lines
 
--- an answer is the right one, unless memory ran out
-abbrev pub Answers : Result (List SourceLine) LexRefusal → Result (List SourceLine) Fault → Type 0
-Answers (Ok lines) right = right ≡ Ok lines
-Answers (Err (lex.LongLine line)) right = right ≡ Err (record { kind = LongLine; line = line.0 })
-Answers (Err (lex.BadByte line)) right = right ≡ Err (record { kind = BadByte; line = line.0 })
-Answers (Err (lex.OpenQuote line)) right = right ≡ Err (record { kind = OpenQuote; line = line.0 })
-Answers (Err (lex.BadNumber line)) right = right ≡ Err (record { kind = BadNumber; line = line.0 })
-Answers (Err lex.Memory) right = ⊤
+-- the first of these rows has this number; the row `line` breaks a rule in this way, and no row above it breaks one or is an
+-- END line
+abbrev pub IsFaultFrom : ℕ → List Row → ℕ → TextKind → Type 0
+IsFaultFrom number [] line kind = ⊥
+IsFaultFrom number (row ∷ rows) line kind =
+    ((line ≡ number) × IsFaultOf (line_of row) kind)
+    ⊎ (IsSound (line_of row) × ¬ IsEndLine (line_of row) × IsFaultFrom (number + 1) rows line kind)
 
--- the same of one line
-abbrev pub AnswersLine : Result SourceLine LineRefusal → Result SourceLine TextKind → Type 0
-AnswersLine (Ok read) right = right ≡ Ok read
-AnswersLine (Err (line.Fault kind)) right = right ≡ Err kind
-AnswersLine (Err line.Memory) right = ⊤
+-- the lowest line of a source that breaks a rule, and how
+pub record IsFaultAt (source : List ℕ) (line : ℕ) (kind : TextKind) : Type 0 where
+  pub lowest : IsFaultFrom 1 (rows_of source) line kind
+
+-- ---- Tokens
+
+-- the token is in the source, and its slice of it is what its kind says
+pub record IsTokenOf (source : List ℕ) (annotation : Bool) (token : Token) : Type 0 where
+  pub some : token.start < token.end
+  pub within : token.end ≤ length source
+  pub text : IsToken annotation token.kind (slice_range source token.start token.end)
+
+-- so is each token of these lines
+abbrev pub HaveTokensOf : List ℕ → List SourceLine → Type 0
+HaveTokensOf source lines =
+    AllByRecursion (λ line. AllByRecursion (IsTokenOf source (is_annotation line.kind)) line.tokens) lines

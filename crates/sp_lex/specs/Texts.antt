@@ -1,16 +1,14 @@
 -- Texts in quotes. The quote is byte 39.
-use Rattle.std.specs.Prelude.{ℕ, ◌+◌, ◌==◌, if◌then◌else◌, List, [], ◌∷◌, ◌++◌, Option, Some, None}
-use Rattle.std.specs.Option.{option_map}
+use Rattle.std.specs.Prelude.{ℕ, ◌==◌, if◌then◌else◌, List, [], ◌∷◌, ◌++◌}
 use Rattle.std.specs.List.{flat_map}
 
--- behind the quote that opens a text, how many bytes the text has, the quote that closes it among them: the first quote
--- that isn't one of two
-unfoldable pub text_rest : List ℕ → Option ℕ
-text_rest [] = None
-text_rest (byte ∷ []) = if byte == 39 then Some 1 else None
-text_rest (byte ∷ next ∷ bytes) =
-    if byte == 39 then (if next == 39 then option_map (λ len. len + 2) (text_rest bytes) else Some 1)
-    else option_map (λ len. len + 1) (text_rest (next ∷ bytes))
+-- how a character is written in a text
+abbrev pub written : ℕ → List ℕ
+written character = if character == 39 then 39 ∷ 39 ∷ [] else character ∷ []
+
+-- a text is a quote, its characters, each quote among them twice, and a quote
+abbrev pub text_of : List ℕ → List ℕ
+text_of characters = 39 ∷ flat_map written characters ++ 39 ∷ []
 
 -- the characters that bytes inside a text stand for, up to the quote that closes it
 unfoldable pub unquoted : List ℕ → List ℕ
@@ -24,11 +22,3 @@ unquoted (byte ∷ next ∷ bytes) =
 abbrev pub characters_of : List ℕ → List ℕ
 characters_of [] = []
 characters_of (quote ∷ inside) = unquoted inside
-
--- how a character is written in a text
-abbrev pub written : ℕ → List ℕ
-written character = if character == 39 then 39 ∷ 39 ∷ [] else character ∷ []
-
--- a text is a quote, its characters, each quote among them twice, and a quote
-abbrev pub text_of : List ℕ → List ℕ
-text_of characters = 39 ∷ flat_map written characters ++ 39 ∷ []

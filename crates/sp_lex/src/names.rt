@@ -1,5 +1,6 @@
 ghost use Rattle.std.specs.Prelude.{◌≡◌, ◌≤◌, ◌↔◌, length, IsSome, IfSome};
-ghost use Rattle.sp_lex.specs.Names.{folded, is_end_word};
+ghost use Rattle.sp_lex.specs.Names.{folded};
+ghost use Rattle.sp_lex.specs.code.Lines.{is_end_word};
 
 use sp_base::Name;
 

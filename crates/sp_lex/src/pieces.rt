@@ -1,6 +1,7 @@
 ghost use Rattle.std.specs.Prelude.{◌≡◌, ◌<◌, ◌≤◌, ◌+◌, ◌^◌, ◌++◌, None, length, OnOk, IfOk};
-ghost use Rattle.sp_lex.specs.Pieces.{piece_at, text_piece, starts_with_pair, is_mark, starts_with_mark, symbol_len, symbol_piece, unless, fault_of, token_of, cuts, fault_in, tokens_in};
-ghost use Rattle.sp_lex.specs.Texts.{text_rest};
+ghost use Rattle.sp_lex.specs.Pieces.{token_of, tokens_from};
+ghost use Rattle.sp_lex.specs.Tokens.{is_mark};
+ghost use Rattle.sp_lex.specs.code.Pieces.{text_rest, piece_at, text_piece, starts_with_pair, starts_with_mark, symbol_len, symbol_piece, unless, fault_of, cuts, fault_in};
 
 use crate::refusal::{TextKind, first_fault};
 use crate::token::{Token, TokenKind};
@@ -58,7 +59,7 @@ fn is_mark(annotation: bool, byte: u8) -> bool
     }
 }
 
-#[tactic(auto, unfolding(crate::specs::Pieces::symbol_len))]
+#[tactic(auto, unfolding(crate::specs::code::Pieces::symbol_len))]
 fn symbol_len(annotation: bool, bytes: &[u8]) -> usize
     ensures value { result ≡ symbol_len annotation bytes.now }
     ensures within { result ≤ length bytes.now }
@@ -107,7 +108,7 @@ fn text_piece(after: &[u8]) -> Piece
 }
 
 /// The piece that bytes begin with.
-#[tactic(auto, unfolding(crate::specs::Pieces::piece_at))]
+#[tactic(auto, unfolding(crate::specs::code::Pieces::piece_at))]
 fn piece_at(annotation: bool, bytes: &[u8]) -> Piece
     ensures value { result ≡ piece_at annotation bytes.now }
     ensures within { result.len ≤ length bytes.now }
@@ -154,7 +155,7 @@ fn unless(sound: bool, kind: TextKind) -> Option<TextKind>
 }
 
 /// What is wrong with a piece.
-#[tactic(auto, unfolding(crate::specs::Pieces::fault_of))]
+#[tactic(auto, unfolding(crate::specs::code::Pieces::fault_of))]
 fn fault_of(annotation: bool, kind: PieceKind, text: &[u8]) -> Option<TextKind>
     ensures { result ≡ fault_of annotation kind text.now }
 {
@@ -201,8 +202,8 @@ pub(crate) fn scan(
     bytes: &[u8],
 ) -> Result<Option<TextKind>, Memory>
     requires { at + length bytes.now < 2 ^ 64 }
-    ensures fault { IfOk result (λ fault. fault ≡ fault_in annotation None (cuts annotation at 0 bytes.now)) }
-    ensures tokens { OnOk result (tokens.new.items ≡ tokens.old.items ++ tokens_in (cuts annotation at 0 bytes.now)) }
+    ensures fault { IfOk result (λ fault. fault ≡ fault_in annotation None (cuts annotation 0 bytes.now)) }
+    ensures tokens { OnOk result (tokens.new.items ≡ tokens.old.items ++ tokens_from at (cuts annotation 0 bytes.now)) }
 {
     let mut fault = None;
     let mut at = at;

@@ -1,12 +1,13 @@
 ghost use Rattle.std.specs.Prelude.{◌≡◌, ◌<◌, ◌≤◌, ◌+◌, ◌^◌, length};
-ghost use Rattle.sp_lex.specs.Reading.{after_blanks, finished, kind_by, line_at, is_end_line, lines_of, Answers, AnswersLine};
+ghost use Rattle.sp_base.specs.Refused.{Answers};
+ghost use Rattle.sp_lex.specs.Reading.{AreLines, IsFaultAt};
+ghost use Rattle.sp_lex.specs.code.Lines.{after_blanks, finished, kind_by, line_at, is_end_line, GivesLine};
 
 use crate::pieces::scan;
-use crate::refusal::{LexRefusal, LineRefusal, TextKind};
-use crate::rows::first_row;
+use crate::refusal::{LexRefusal, TextKind};
 use crate::token::{LineKind, Lines, SourceLine, Token, Tokens};
 use crate::{bytes, names};
-use sp_base::Line;
+use sp_base::{Line, Refused, first_row};
 use std::alloc::Global;
 
 /// The longest line, in bytes, its end not counted.
@@ -36,16 +37,18 @@ fn kind_by(tokens: &[Token]) -> LineKind
     }
 }
 
+/// The line with this number and these tokens, unless something is wrong with it.
 fn finished(
     alloc: Global,
+    number: Line,
     kind: LineKind,
     tokens: &[Token],
     fault: Option<TextKind>,
-) -> Result<SourceLine, LineRefusal>
-    ensures { AnswersLine result (finished kind tokens.now fault) }
+) -> Result<SourceLine, LexRefusal>
+    ensures { GivesLine number result (finished kind tokens.now fault) }
 {
     match fault {
-        Some(fault) => Err(LineRefusal::Fault(fault)),
+        Some(fault) => Err(Refused::At(number, fault)),
         None => {
             let tokens = Vec::from_slice(alloc, tokens)?;
             Ok(SourceLine {
@@ -56,29 +59,30 @@ fn finished(
     }
 }
 
-/// The line of these bytes, which stand from `at` on in the source. What `tokens` held before is given up.
-#[tactic(auto, unfolding(crate::specs::Reading::line_at))]
+/// The line with this number and these bytes, which stand from `at` on in the source. `tokens` is room to work in.
+#[tactic(auto, unfolding(crate::specs::code::Lines::line_at))]
 fn line_at(
     alloc: Global,
+    number: Line,
     tokens: &mut Vec<Token>,
     at: usize,
     line: &[u8],
-) -> Result<SourceLine, LineRefusal>
+) -> Result<SourceLine, LexRefusal>
     requires { at + length line.now < 2 ^ 63 }
-    ensures { AnswersLine result (line_at at line.now) }
+    ensures { GivesLine number result (line_at at line.now) }
 {
     if line.len() > MAX_LINE {
-        return Err(LineRefusal::Fault(TextKind::LongLine));
+        return Err(Refused::At(number, TextKind::LongLine));
     }
     tokens.clear();
     let rest = after_blanks(line);
     if rest.starts_with(b";#") {
         let (_, text) = rest.split_at(2);
         let fault = scan(tokens, true, at + bytes::blanks(line) + 2, text)?;
-        return finished(alloc, LineKind::Annotation, tokens, fault);
+        return finished(alloc, number, LineKind::Annotation, tokens, fault);
     }
     let fault = scan(tokens, false, at, line)?;
-    finished(alloc, kind_by(tokens), tokens, fault)
+    finished(alloc, number, kind_by(tokens), tokens, fault)
 }
 
 /// How many line feeds a source has.
@@ -93,7 +97,7 @@ fn line_feeds(source: &[u8]) -> usize
 /// of one line's faults the first in the order of `TextKind`.
 pub fn lines(alloc: Global, source: &[u8]) -> Result<Lines, LexRefusal>
     requires { length source.now < 4294967295 }
-    ensures { Answers result (lines_of source.now) }
+    ensures { Answers (AreLines source.now) (IsFaultAt source.now) result }
 {
     let mut lines = Vec::with_capacity(alloc, line_feeds(source) + 1)?;
     let mut tokens = Vec::new(alloc);
@@ -103,10 +107,7 @@ pub fn lines(alloc: Global, source: &[u8]) -> Result<Lines, LexRefusal>
     while !rest.is_empty() {
         let row = first_row(rest);
         let line = row.line();
-        let read = match line_at(alloc, &mut tokens, at, line) {
-            Ok(read) => read,
-            Err(refusal) => return Err(refusal.at(Line(number))),
-        };
+        let read = line_at(alloc, Line(number), &mut tokens, at, line)?;
         lines.push(read)?;
         if is_end_line(line) {
             return Ok(Lines::from_vec(lines));

@@ -1,11 +1,7 @@
 ghost use Rattle.std.specs.Prelude.{◌≡◌};
-ghost use Rattle.sp_lex.specs.Refusal.{refusal_at, first_fault};
-ghost use Rattle.sp_lex.specs.declared.refusal.LexRefusal.TheVariants as lex;
-ghost use Rattle.sp_lex.specs.declared.refusal.LineRefusal.TheVariants as line;
+ghost use Rattle.sp_lex.specs.code.Pieces.{first_fault};
 
-use sp_base::{Line, Memory};
-use std::alloc::{AllocError, AllocFailed};
-use thiserror::Error;
+use sp_base::Refused;
 
 /// How a line breaks the rules on lines and tokens. Of several faults of one line the first of this order counts.
 #[derive(Clone, Copy, Debug, PartialEq, Eq)]
@@ -20,44 +16,8 @@ pub enum TextKind {
     BadNumber,
 }
 
-/// Why a source has no lines.
-#[derive(Clone, Copy, Debug, PartialEq, Eq, Error)]
-pub enum LexRefusal {
-    #[error("a line over 4096 bytes")]
-    LongLine(Line),
-    #[error("a byte that starts no token")]
-    BadByte(Line),
-    #[error("a quote that is not closed")]
-    OpenQuote(Line),
-    #[error("a number outside its base or range")]
-    BadNumber(Line),
-    #[error("out of memory")]
-    Memory,
-}
-
-impl From<Memory> for LexRefusal {
-    ghost from_gives = { λ _ e. e ≡ lex.Memory };
-
-    fn from(_: Memory) -> LexRefusal {
-        LexRefusal::Memory
-    }
-}
-
-impl From<AllocError> for LexRefusal {
-    ghost from_gives = { λ _ e. e ≡ lex.Memory };
-
-    fn from(_: AllocError) -> LexRefusal {
-        LexRefusal::Memory
-    }
-}
-
-impl<T: Drop> From<AllocFailed<T>> for LexRefusal {
-    ghost from_gives = { λ _ e. e ≡ lex.Memory };
-
-    fn from(_: AllocFailed<T>) -> LexRefusal {
-        LexRefusal::Memory
-    }
-}
+/// Why a source has no lines: its lowest line that breaks a rule, with how it does, or want of memory.
+pub type LexRefusal = Refused<TextKind>;
 
 /// The one of two faults of a line that counts.
 pub(crate) fn first_fault(one: Option<TextKind>, other: Option<TextKind>) -> Option<TextKind>
@@ -72,44 +32,6 @@ pub(crate) fn first_fault(one: Option<TextKind>, other: Option<TextKind>) -> Opt
             } else {
                 Some(other)
             }
-        }
-    }
-}
-
-/// Why a line couldn't be read.
-#[derive(Clone, Copy, Debug)]
-pub(crate) enum LineRefusal {
-    Fault(TextKind),
-    Memory,
-}
-
-impl From<Memory> for LineRefusal {
-    ghost from_gives = { λ _ e. e ≡ line.Memory };
-
-    fn from(_: Memory) -> LineRefusal {
-        LineRefusal::Memory
-    }
-}
-
-impl From<AllocError> for LineRefusal {
-    ghost from_gives = { λ _ e. e ≡ line.Memory };
-
-    fn from(_: AllocError) -> LineRefusal {
-        LineRefusal::Memory
-    }
-}
-
-impl LineRefusal {
-    /// The refusal of the source for that of this line.
-    pub(crate) fn at(self, line: Line) -> LexRefusal
-        ensures { result ≡ refusal_at self line }
-    {
-        match self {
-            LineRefusal::Fault(TextKind::LongLine) => LexRefusal::LongLine(line),
-            LineRefusal::Fault(TextKind::BadByte) => LexRefusal::BadByte(line),
-            LineRefusal::Fault(TextKind::OpenQuote) => LexRefusal::OpenQuote(line),
-            LineRefusal::Fault(TextKind::BadNumber) => LexRefusal::BadNumber(line),
-            LineRefusal::Memory => LexRefusal::Memory,
         }
     }
 }

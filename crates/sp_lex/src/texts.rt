@@ -1,17 +1,19 @@
 ghost use Rattle.std.specs.Prelude.{◌≡◌, ◌<◌, ◌≤◌, length, slice_index, IfOk, IfSome};
-ghost use Rattle.sp_lex.specs.Texts.{text_rest, unquoted, characters_of};
+ghost use Rattle.sp_lex.specs.Texts.{unquoted, characters_of};
+ghost use Rattle.sp_lex.specs.code.Pieces.{text_rest};
 
 use sp_base::Memory;
 use std::alloc::Global;
 
 const QUOTE: u8 = b'\'';
 
-/// Behind the quote that opens a text, how many bytes the text has, the quote that closes it among them; None where
-/// none does.
+/// After the quote that opens a text, how many bytes the longest text has, the quote that closes it among them; None
+/// where none does. A quote written twice goes on, but closes the text where no later quote does.
 pub(crate) fn text_rest(bytes: &[u8]) -> Option<usize>
     ensures value { result ≡ text_rest bytes.now }
     ensures within { IfSome result (λ len. len ≤ length bytes.now) }
 {
+    let mut closed = None;
     let mut len = 0;
     while len < bytes.len() {
         if bytes[len] != QUOTE {
@@ -21,9 +23,10 @@ pub(crate) fn text_rest(bytes: &[u8]) -> Option<usize>
         if byte_at(bytes, len + 1) != QUOTE {
             return Some(len + 1);
         }
+        closed = Some(len + 1);
         len += 2;
     }
-    None
+    closed
 }
 
 /// The byte at a place, 0 where there is none.

@@ -1,6 +1,4 @@
-ghost use Rattle.std.specs.Prelude.{◌≡◌};
-
-use std::marker::Model;
+use sp_base::Seq;
 
 /// What a token is.
 #[derive(Clone, Copy, Debug, PartialEq, Eq)]
@@ -24,35 +22,7 @@ pub struct Token {
 }
 
 /// The tokens of a line, in order. Contracts see a list.
-#[derive(Debug, Drop)]
-pub struct Tokens {
-    items: Vec<Token>,
-}
-
-impl Model for Tokens {
-    ghost use Rattle.std.specs.Prelude.{List};
-    ghost use Rattle.sp_lex.specs.declared.token.Token.{Token};
-
-    ghost Value = { List Token };
-
-    ghost view = { λ tokens. tokens.items.items };
-}
-
-impl Tokens {
-    /// The list of these tokens.
-    pub fn from_vec(items: Vec<Token>) -> Tokens
-        ensures { result ≡ items.items }
-    {
-        Tokens { items }
-    }
-
-    /// The tokens in order.
-    pub fn as_slice(&self) -> &[Token]
-        ensures { result.now ≡ self.now }
-    {
-        self.items.as_slice()
-    }
-}
+pub type Tokens = Seq<Token>;
 
 /// What a line is.
 #[derive(Clone, Copy, Debug, PartialEq, Eq)]
@@ -73,32 +43,4 @@ pub struct SourceLine {
 }
 
 /// The lines of a source, from the first on. Contracts see a list.
-#[derive(Debug, Drop)]
-pub struct Lines {
-    items: Vec<SourceLine>,
-}
-
-impl Model for Lines {
-    ghost use Rattle.std.specs.Prelude.{List};
-    ghost use Rattle.sp_lex.specs.declared.token.SourceLine.{SourceLine};
-
-    ghost Value = { List SourceLine };
-
-    ghost view = { λ lines. lines.items.items };
-}
-
-impl Lines {
-    /// The list of these lines.
-    pub fn from_vec(items: Vec<SourceLine>) -> Lines
-        ensures { result ≡ items.items }
-    {
-        Lines { items }
-    }
-
-    /// The lines in order.
-    pub fn as_slice(&self) -> &[SourceLine]
-        ensures { result.now ≡ self.now }
-    {
-        self.items.as_slice()
-    }
-}
+pub type Lines = Seq<SourceLine>;

@@ -7,8 +7,7 @@ use Rattle.sp_base.specs.declared.line.Line.{Line}
 use Rattle.sp_lex.specs.declared.refusal.TextKind.{TextKind}
 use Rattle.sp_lex.specs.declared.token.SourceLine.{SourceLine}
 use Rattle.sp_lex.specs.declared.token.Token.{Token}
-use Rattle.sp_lex.specs.Reading.{Row, row, rows_of, in_front, line_of, size_of, line_at, is_end_line, with_first, then_lines, lines_from, AreLines}
-use Rattle.sp_lex.specs.Reading as lex
+use Rattle.sp_lex.specs.Reading.{AreLines}
 use Rattle.sp_expr.specs.declared.refusal.ParseRefusal.{ParseRefusal}
 use Rattle.sp_expr.specs.declared.refusal.ParseRefusal.TheVariants.{Syntax, TooDeep, Memory}
 use Rattle.sp_expr.specs.Words.{AreIn}
@@ -17,45 +16,6 @@ use Rattle.sp_stmt.specs.declared.statement.Statement.{Statement}
 use Rattle.sp_stmt.specs.code.Answers.{Answers, AnswersStatements, refusal_at}
 use Rattle.sp_stmt.specs.code.Reading.{Fault, is_statement, from_line, then_statements, statement_of, statements_from}
 use Rattle.sp_stmt.specs.code.Reading as stmt
-
--- a row is no shorter than a byte, so a source has no more lines than bytes
-
-in_front_short : (byte n : ℕ) (rows : List Row) → length rows ≤ n → length (in_front byte rows) ≤ suc n
-in_front_short byte n [] le = omega arith
-in_front_short byte n (first ∷ rows) le = omega arith
-
-rows_by : (feed : Bool) (byte n : ℕ) (rows : List Row) → length rows ≤ n → length (cond feed (row [] true ∷ rows) (in_front byte rows)) ≤ suc n
-rows_by true byte n rows le = omega arith
-rows_by false byte n rows le = in_front_short byte n rows le
-
-rows_short : (text : List ℕ) → length (rows_of text) ≤ length text
-unfolding rows_of
-rows_short [] = omega arith
-rows_short (byte ∷ text) = rows_by (byte == 10) byte (length text) (rows_of text) (rows_short text)
-
-abbrev Lines : Type 0
-Lines = Result (List SourceLine) lex.Fault
-
-first_short : (first : SourceLine) (n : ℕ) (below : Lines) → IfOk below (λ ls. length ls ≤ n) → IfOk (with_first first below) (λ ls. length ls ≤ suc n)
-first_short first n (Ok lines) le = omega arith
-first_short first n (Err fault) le = tt
-
-then_short : (number n : ℕ) (last : Bool) (read : Result SourceLine TextKind) (below : Lines) → IfOk below (λ ls. length ls ≤ n) → IfOk (then_lines number last read below) (λ ls. length ls ≤ suc n)
-then_short number n last (Err kind) below le = tt
-then_short number n true (Ok line) below le = omega arith
-then_short number n false (Ok line) below le = first_short line n below le
-
-lines_short : (number at : ℕ) (rows : List Row) → IfOk (lines_from number at rows) (λ ls. length ls ≤ length rows)
-unfolding lines_from
-lines_short number at [] = omega arith
-lines_short number at (first ∷ rows) =
-    then_short number (length rows) (is_end_line (line_of first)) (line_at at (line_of first)) (lines_from (number + 1) (at + size_of first) rows) (lines_short (number + 1) (at + size_of first) rows)
-
-pub length-lines : (source : List ℕ) (lines : List SourceLine) → AreLines source lines → length lines ≤ length source
-length-lines source lines are =
-    let P : Lines → Type 0 = λ r. IfOk r (λ ls. length ls ≤ length (rows_of source)) in
-    let le : length lines ≤ length (rows_of source) = subst P are (lines_short 1 0 (rows_of source)) in
-    omega (arith, rows_short source)
 
 -- the tokens of a line lie in the source
 pub line_in : (source : List ℕ) (lines given : List SourceLine) (i : ℕ) (line : SourceLine) (tokens : List Token) → AreLines source lines → given ≡ lines → i < length given → line ≡ get_or given i line → tokens ≡ line.tokens → AreIn source tokens

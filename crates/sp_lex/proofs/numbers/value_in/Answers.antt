@@ -1,5 +1,5 @@
 use Rattle.std.proofs.Common.{sym, ◌∙◌, arith}
-use Rattle.sp_lex.proofs.NumberLaws.{value_from-too_large}
+use Rattle.sp_lex.proofs.NumberLemmas.{value_from-too_large}
 use Rattle.sp_lex.proofs.numbers.value_in.Goals as goal
 
 pub returns-in_default : goal.returns-in_default

@@ -1,6 +1,7 @@
 use Rattle.std.proofs.Common.{◌≡◌, ◌+◌, ◌≤◌, length}
-use Rattle.sp_lex.specs.Reading.{rows_of, lines_from, lines_of}
-use Rattle.sp_lex.proofs.ReadingLaws.{behind}
+use Rattle.sp_base.specs.Lines.{rows_of}
+use Rattle.sp_lex.specs.code.Lines.{lines_from, lines_of}
+use Rattle.sp_lex.proofs.ReadingLemmas.{behind}
 use Rattle.sp_lex.proofs.reading.lines.Given as goal
 
 abbrev pub invariant-loop-rest : goal.invariant-loop-rest

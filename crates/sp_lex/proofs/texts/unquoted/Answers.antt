@@ -1,6 +1,6 @@
 use Rattle.std.proofs.Common.{◌++◌, sym, ap, ◌∙◌, append_assoc, arith}
 use Rattle.std.proofs.lemmas.List.{append-nil}
-use Rattle.sp_lex.proofs.TextLaws.{unquoted-other, unquoted-closed, unquoted-twice, unquoted-done}
+use Rattle.sp_lex.proofs.TextLemmas.{unquoted-other, unquoted-closed, unquoted-twice, unquoted-done}
 use Rattle.sp_lex.proofs.texts.unquoted.Goals as goal
 
 pub loop-at-preserved-then-byte-ne-QUOTE : goal.loop-at-preserved-then-byte-ne-QUOTE

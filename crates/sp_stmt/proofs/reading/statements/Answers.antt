@@ -4,7 +4,8 @@ use Rattle.sp_stmt.specs.declared.refusal.StatementKind.{StatementKind}
 use Rattle.sp_stmt.specs.declared.statement.Statement.{Statement}
 use Rattle.sp_stmt.specs.code.Answers.{AnswersStatements}
 use Rattle.sp_stmt.specs.code.Reading.{statements_of}
-use Rattle.sp_stmt.proofs.LineLaws.{length-lines, line_in, in_order-skip, in_order-more, in_order-refused, in_order-all}
+use Rattle.sp_lex.proofs.SourceLemmas.{length-lines}
+use Rattle.sp_stmt.proofs.LineLaws.{line_in, in_order-skip, in_order-more, in_order-refused, in_order-all}
 use Rattle.sp_stmt.proofs.SourceLemmas.{right_by, complete_by}
 use Rattle.sp_stmt.proofs.StatementLaws.{statements_are}
 use Rattle.sp_stmt.proofs.reading.statements.Goals as goal

@@ -4,31 +4,13 @@ use Rattle.std.proofs.lemmas.Bool.{ne_eqb, eq-eqb}
 use Rattle.std.proofs.lemmas.List.{append-nil}
 use Rattle.sp_lex.specs.declared.refusal.TextKind.{TextKind}
 use Rattle.sp_lex.specs.declared.token.SourceLine.{SourceLine}
-use Rattle.sp_lex.specs.declared.refusal.TextKind.TheVariants.{LongLine, BadByte, OpenQuote, BadNumber}
-use Rattle.sp_lex.specs.declared.refusal.LineRefusal.{LineRefusal}
-use Rattle.sp_lex.specs.declared.refusal.LineRefusal.TheVariants as refusals
-use Rattle.sp_lex.specs.Refusal.{refusal_at}
-use Rattle.sp_lex.specs.Reading.{Row, row, rows_of, in_front, size_of, line_of, line_at, is_end_line, Fault, with_first, lines_from, Answers, AnswersLine}
+use Rattle.sp_base.specs.declared.line.Line.{Line}
+use Rattle.sp_base.specs.declared.refused.Refused.{Refused}
+use Rattle.sp_base.specs.declared.refused.Refused.TheVariants as refused
+use Rattle.sp_base.specs.Lines.{Row, row, rows_of, in_front, size_of, line_of}
+use Rattle.sp_lex.specs.code.Lines.{line_at, is_end_line, Fault, with_first, lines_from, Gives, GivesLine}
 
--- a text without a line feed is one row
-pub rows_of-unended : (text : List ℕ) → 0 < length text → ((k : ℕ) → k < length text → get_or text k 0 ≢ 10) → rows_of text ≡ row text false ∷ []
-unfolding rows_of
-rows_of-unended [] some none = absurd (omega arith)
-rows_of-unended (byte ∷ []) some none = rw (ne_eqb byte 10 (none 0 (omega arith))) refl
-rows_of-unended (byte ∷ next ∷ text) some none =
-    rw (ne_eqb byte 10 (none 0 (omega arith)))
-    (ap (in_front byte) (rows_of-unended (next ∷ text) (omega arith) (λ k lt. none (suc k) (omega arith))))
-
--- up to the first line feed a text is a row
-pub rows_of-ended : (i : ℕ) (text : List ℕ) → i < length text → ((k : ℕ) → k < i → get_or text k 0 ≢ 10) → get_or text i 0 ≡ 10 → rows_of text ≡ row (take i text) true ∷ rows_of (drop (suc i) text)
-unfolding rows_of
-rows_of-ended i [] lt none is = absurd (omega arith)
-rows_of-ended zero (byte ∷ text) lt none is = rw (eq-eqb byte 10 is) refl
-rows_of-ended (suc i) (byte ∷ text) lt none is =
-    rw (ne_eqb byte 10 (none 0 (omega arith)))
-    (ap (in_front byte) (rows_of-ended i text (omega arith) (λ k less. none (suc k) (omega arith)) is))
-
--- lines behind others
+-- lines after others
 abbrev pub behind : List SourceLine → Result (List SourceLine) Fault → Result (List SourceLine) Fault
 behind front (Ok lines) = Ok (front ++ lines)
 behind front (Err fault) = Err fault
@@ -60,29 +42,23 @@ behind-last front number at text line first read rows line_is reads last =
     let last' : is_end_line (line_of first) ≡ true = rw (← line_is) last in
     rw (rows, reads', last') refl
 
-refused : (front : List SourceLine) (number at : ℕ) (text line : List ℕ) (first : Row) (kind : TextKind) → rows_of text ≡ first ∷ rows_of (drop (size_of first) text)
+stopped : (front : List SourceLine) (number at : ℕ) (text line : List ℕ) (first : Row) (kind : TextKind) → rows_of text ≡ first ∷ rows_of (drop (size_of first) text)
     → line ≡ line_of first → line_at at line ≡ Err kind → behind front (lines_from number at (rows_of text)) ≡ Err (record { kind = kind; line = number })
 unfolding lines_from
-refused front number at text line first kind rows line_is refuses =
+stopped front number at text line first kind rows line_is refuses =
     let refuses' : line_at at (line_of first) ≡ Err kind = rw (← line_is) refuses in
     rw (rows, refuses') refl
 
 -- a line that is refused
-pub behind-refused : (front : List SourceLine) (number at : ℕ) (text line : List ℕ) (first : Row) (refusal : LineRefusal) (right : Result (List SourceLine) Fault) → rows_of text ≡ first ∷ rows_of (drop (size_of first) text)
-    → line ≡ line_of first → AnswersLine (Err refusal) (line_at at line) → behind front (lines_from number at (rows_of text)) ≡ right → Answers (Err (refusal_at refusal (record { 0 = number }))) right
-unfolding lines_from
-behind-refused front number at text line first (refusals.Fault LongLine) right rows line_is refuses is = sym is ∙ refused front number at text line first LongLine rows line_is refuses
-behind-refused front number at text line first (refusals.Fault BadByte) right rows line_is refuses is = sym is ∙ refused front number at text line first BadByte rows line_is refuses
-behind-refused front number at text line first (refusals.Fault OpenQuote) right rows line_is refuses is = sym is ∙ refused front number at text line first OpenQuote rows line_is refuses
-behind-refused front number at text line first (refusals.Fault BadNumber) right rows line_is refuses is = sym is ∙ refused front number at text line first BadNumber rows line_is refuses
-behind-refused front number at text line first refusals.Memory right rows line_is refuses is = tt
+pub behind-refused : (front : List SourceLine) (number : Line) (at : ℕ) (text line : List ℕ) (first : Row) (refusal : Refused TextKind) (right : Result (List SourceLine) Fault) → rows_of text ≡ first ∷ rows_of (drop (size_of first) text)
+    → line ≡ line_of first → GivesLine number (Err refusal) (line_at at line) → behind front (lines_from number.0 at (rows_of text)) ≡ right → Gives (Err refusal) right
+behind-refused front number at text line first (refused.At by kind) right rows line_is refuses is =
+    sym is ∙ stopped front number.0 at text line first kind rows line_is refuses.1
+    ∙ ap (λ (n : Line). Err (record { kind = kind; line = n.0 })) (sym refuses.0)
+behind-refused front number at text line first refused.Memory right rows line_is refuses is = tt
 
 -- no more lines
 pub behind-all : (front : List SourceLine) (number at : ℕ) (text : List ℕ) → length text ≡ 0 → behind front (lines_from number at (rows_of text)) ≡ Ok front
 unfolding lines_from rows_of
 behind-all front number at [] none = ap (λ ls. Ok ls) (append-nil front)
 behind-all front number at (byte ∷ text) none = absurd (omega arith)
-
-pub rows_of-none : (text : List ℕ) → text ≡ [] → rows_of text ≡ []
-unfolding rows_of
-rows_of-none text none = ap rows_of none
