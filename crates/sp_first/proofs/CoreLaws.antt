@@ -5,27 +5,8 @@ use Rattle.sp_base.specs.declared.location.Reg.TheVariants as reg
 use Rattle.sp_base.specs.declared.location.Loc.{Loc}
 use Rattle.sp_base.specs.declared.location.Loc.TheVariants as loc
 use Rattle.sp_base.specs.Location.{loc_of}
-use Rattle.sp_isa.specs.Core.{Core, at, reg_of, with_reg, with_pc, with_sp}
+use Rattle.sp_isa.specs.Core.{Core, at, reg_of, with_reg}
 use Rattle.sp_first.specs.Program.{same_reg}
-
-pub reg_of-at : (r : Reg) (core : Core) → reg_of r core ≡ at (loc_of r) core
-reg_of-at reg.B core = refl
-reg_of-at reg.C core = refl
-reg_of-at reg.D core = refl
-reg_of-at reg.E core = refl
-reg_of-at reg.H core = refl
-reg_of-at reg.L core = refl
-reg_of-at reg.A core = refl
-
-pub at-with_pc : (x : Loc) (v : ℕ) (core : Core) → at x (with_pc v core) ≡ at x core
-unfolding with_pc
-at-with_pc loc.A v core = refl
-at-with_pc x v core = refl
-
-pub at-with_sp : (x : Loc) (v : ℕ) (core : Core) → at x (with_sp v core) ≡ at x core
-unfolding with_sp
-at-with_sp loc.A v core = refl
-at-with_sp x v core = refl
 
 pub at-with_reg : (r : Reg) (v : ℕ) (x : Loc) (core : Core) → (x ≡ loc_of r) ⊎ (at x (with_reg r v core) ≡ at x core)
 unfolding with_reg
@@ -60,15 +41,3 @@ reg_of-with_reg reg.L reg.B v core = refl
 reg_of-with_reg reg.L q v core = refl
 reg_of-with_reg reg.A reg.B v core = refl
 reg_of-with_reg reg.A q v core = refl
-
--- the parts that a register doesn't share
-pub record SameFrame (old new : Core) : Type 0 where
-  pub sp : new.sp ≡ old.sp
-  pub pc : new.pc ≡ old.pc
-  pub halted : new.halted ≡ old.halted
-  pub cells : new.cells ≡ old.cells
-
-pub frame-with_reg : (r : Reg) (v : ℕ) (core : Core) → SameFrame core (with_reg r v core)
-unfolding with_reg
-frame-with_reg reg.B v core = record { sp = refl; pc = refl; halted = refl; cells = refl }
-frame-with_reg r v core = record { sp = refl; pc = refl; halted = refl; cells = refl }

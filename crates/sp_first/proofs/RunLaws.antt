@@ -29,7 +29,8 @@ use Rattle.sp_model.specs.Unit.{Routine, Unit}
 use Rattle.sp_model.specs.Good.{frame_of, IsEntry, Keeps, IsReturnStep, HasReturned, IsInCode, IsGoodAt, IsGood, AllRunsAreGood}
 use Rattle.sp_first.specs.Program.{Reading, instr_of, instrs, stmts_from, routine_of, unit_of, same_reg, last_value, SetsListed, Meets}
 use Rattle.sp_first.proofs.Steps.{same_some}
-use Rattle.sp_first.proofs.CoreLaws.{reg_of-at, at-with_pc, at-with_sp, at-with_reg, reg_of-with_reg, frame-with_reg}
+use Rattle.sp_isa.proofs.PartLemmas.{reg_of-at, at-with_pc, at-with_sp, frame-with_reg}
+use Rattle.sp_first.proofs.CoreLaws.{at-with_reg, reg_of-with_reg}
 use Rattle.sp_first.proofs.ImageLaws.{byte_at, code_byte, code_within, codes_short, stmt_at, no_asserts}
 
 here : (core : Core) (b : ℕ) → cell (core.pc + 0) core ≡ b → cell core.pc core ≡ b
@@ -120,7 +121,7 @@ listed_loc : (x : Reg) (xs : List Reg) → Contains xs x → Contains (map loc_o
 listed_loc x xs h = contains_mapped x xs h.0 h.1 h.2
 
 reg_of-with_pc : (q : Reg) (v : ℕ) (core : Core) → reg_of q (with_pc v core) ≡ reg_of q core
-reg_of-with_pc q v core = reg_of-at q (with_pc v core) ∙ at-with_pc (loc_of q) v core ∙ sym (reg_of-at q core)
+reg_of-with_pc q v core = reg_of-at q (with_pc v core) ∙ at-with_pc v core (loc_of q) ∙ sym (reg_of-at q core)
 
 -- the state after an instruction of n bytes that sets a register
 abbrev moved : Reg → ℕ → ℕ → State → State
@@ -150,7 +151,7 @@ reached_moved r s done i todo t b h to m listed =
       running = frame.halted ∙ h.running;
       cells = frame.cells ∙ h.cells;
       outputs = append-nil t.outputs ∙ h.outputs;
-      unlisted = λ x n. at-with_pc x ((with_reg to m.v t.core).pc + length (code (instr_of i))) (with_reg to m.v t.core)
+      unlisted = λ x n. at-with_pc ((with_reg to m.v t.core).pc + length (code (instr_of i))) (with_reg to m.v t.core) x
           ∙ elim (at-with_reg to m.v x t.core) [
             | inl e ↦ absurd (n (subst (Contains (map loc_of r.changes)) (sym e) (listed_loc to r.changes listed)))
             | inr e ↦ e ∙ h.unlisted x n
@@ -214,7 +215,7 @@ returned : (r : Reading) (s t : State) → Begins r s → Reached r s r.program 
 unfolding effect ret with_sp with_pc
 returned r s t b h ret =
     let after = steps_execute t Ret 1 h.running (fetched r s r.program [] t b h) in
-    let left = λ (x : Loc). at-with_sp x (t.core.sp + 2) (with_pc (word t.core.sp t.core) t.core) ∙ at-with_pc x (word t.core.sp t.core) t.core in
+    let left = λ (x : Loc). at-with_sp (t.core.sp + 2) (with_pc (word t.core.sp t.core) t.core) x ∙ at-with_pc (word t.core.sp t.core) t.core x in
     subst (HasReturned (unit_of r) (routine_of r) s) (sym after) (record {
       keeps = keeps_all r s (executed Ret t) h.cells (append-nil t.outputs ∙ h.outputs);
       post = All-cons (λ note. Holds (frame_of (unit_of r) (routine_of r) s) note s (executed Ret t)) _ [] (ap pos (left (loc_of r.post) ∙ sym (reg_of-at r.post t.core) ∙ h.values r.post r.value b.met.post)) (All-nil _);

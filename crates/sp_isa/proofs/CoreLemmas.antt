@@ -9,6 +9,7 @@ use Rattle.std.proofs.lemmas.Nat.{and_le_r, or_lt, xor_lt}
 use Rattle.std.proofs.lemmas.List.Elements.{All-set, All-get_or, All-nil, All-cons}
 use Rattle.sp_base.specs.declared.location.Reg.{Reg}
 use Rattle.sp_base.specs.declared.location.Reg.TheVariants as reg
+use Rattle.sp_base.specs.declared.location.Loc.{Loc}
 use Rattle.sp_base.specs.declared.location.Loc.TheVariants as loc
 use Rattle.sp_base.specs.declared.pair.Pair.{Pair}
 use Rattle.sp_base.specs.declared.pair.Pair.TheVariants as pair
@@ -21,7 +22,7 @@ use Rattle.sp_isa.specs.declared.instr.Op.TheVariants as op
 use Rattle.sp_isa.specs.declared.instr.Instr.{Instr}
 use Rattle.sp_isa.specs.declared.instr.Instr.TheVariants.{Mov, Mvi, Inr, Dcr, Alu, AluImmediate, Lxi, Dad, Inx, Dcx, Stax, Ldax, Shld, Lhld, Sta, Lda, Rlc, Rrc, Ral, Rar, Daa, Cma, Stc, Cmc, Push, Pop, Jmp, Jcc, Call, Ccc, Ret, Rcc, Rst, Pchl, Sphl, Xthl, Xchg, In, Out, Nop, Ei, Di, Hlt}
 use Rattle.sp_isa.specs.Code.{operand, bytes_of}
-use Rattle.sp_isa.specs.Core.{Core, IsCore, at, limit, reg_of, cell, with_reg, with_flag, with_cell, with_sp, with_pc, with_halted, advance}
+use Rattle.sp_isa.specs.Core.{Core, IsCore, IsFlag, at, limit, reg_of, cell, with_reg, with_flag, with_cell, with_sp, with_pc, with_halted, advance}
 use Rattle.sp_isa.specs.Operands.{pair_of, with_pair, arg_of, with_arg}
 use Rattle.sp_isa.specs.Arithmetic.{one_if, with_szp, add, compare, subtract, logic, bit_three, alu, increase, decrease, add_pair, adjusts_low, adjusts_high, adjust, rotate}
 use Rattle.sp_isa.specs.Stack.{push, flag_byte, with_flag_byte, push_pair, top_to, pop_pair, holds, call, ret, exchange_top, exchange_pairs}
@@ -103,7 +104,7 @@ keep_a v core low h = record {
   bytes = h.bytes;
 }
 
-keep_reg : (r : Reg) (v : ℕ) (core : Core) → v < 256 → IsCore core → IsCore (with_reg r v core)
+pub keep_reg : (r : Reg) (v : ℕ) (core : Core) → v < 256 → IsCore core → IsCore (with_reg r v core)
 keep_reg reg.B v core = keep_b v core
 keep_reg reg.C v core = keep_c v core
 keep_reg reg.D v core = keep_d v core
@@ -162,6 +163,14 @@ flag_cy v core low h = record {
   bytes = h.bytes;
 }
 
+pub keep_flag : (x : Loc) (v : ℕ) (core : Core) → IsFlag x → v < 2 → IsCore core → IsCore (with_flag x v core)
+keep_flag loc.S v core f = flag_s v core
+keep_flag loc.Z v core f = flag_z v core
+keep_flag loc.Ac v core f = flag_ac v core
+keep_flag loc.P v core f = flag_p v core
+keep_flag loc.Cy v core f = flag_cy v core
+keep_flag x v core f = elim f [ ]
+
 keep-with_sp : (v : ℕ) (core : Core) → IsCore core → IsCore (with_sp v core)
 unfolding with_sp
 keep-with_sp v core h = record {
@@ -202,7 +211,7 @@ keep-with_halted v core h = record {
   bytes = h.bytes;
 }
 
-keep-with_cell : (a v : ℕ) (core : Core) → v < 256 → IsCore core → IsCore (with_cell a v core)
+pub keep-with_cell : (a v : ℕ) (core : Core) → v < 256 → IsCore core → IsCore (with_cell a v core)
 unfolding with_cell
 keep-with_cell a v core low h = record {
   locations = each_loc (λ x. at x (with_cell a v core) < limit x) (h.locations loc.A) (h.locations loc.B) (h.locations loc.C) (h.locations loc.D) (h.locations loc.E) (h.locations loc.H) (h.locations loc.L) (h.locations loc.S) (h.locations loc.Z) (h.locations loc.Ac) (h.locations loc.P) (h.locations loc.Cy);
@@ -273,13 +282,13 @@ keep_logic : (r c : ℕ) (core : Core) → r < 256 → c < 2 → IsCore core →
 unfolding logic
 keep_logic r c core low bit h = keep_a _ _ low (keep_szp _ _ (flag_cy _ _ (lit< tt) (flag_ac _ _ bit h)))
 
-and_low : (a y : ℕ) → y < 256 → bit_and a y < 256
+pub and_low : (a y : ℕ) → y < 256 → bit_and a y < 256
 and_low a y low = omega (arith, and_le_r a y)
 
-or_low : (a y : ℕ) → a < 256 → y < 256 → bit_or a y < 256
+pub or_low : (a y : ℕ) → a < 256 → y < 256 → bit_or a y < 256
 or_low a y one two = or_lt 8 a y one two
 
-xor_low : (a y : ℕ) → a < 256 → y < 256 → bit_xor a y < 256
+pub xor_low : (a y : ℕ) → a < 256 → y < 256 → bit_xor a y < 256
 xor_low a y one two = xor_lt 8 a y one two
 
 keep_alu : (o : Op) (y : ℕ) (core : Core) → y < 256 → IsCore core → IsCore (alu o y core)

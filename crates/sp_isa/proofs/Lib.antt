@@ -4,6 +4,8 @@ pub mod CodeLemmas
 pub mod CoreLaws
 pub mod CoreLemmas
 pub mod LocationLemmas
+pub mod MoveLemmas
 pub mod OutcomeLemmas
+pub mod PartLemmas
 pub mod SumLemmas
 pub mod UndoLemmas

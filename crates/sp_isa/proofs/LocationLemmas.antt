@@ -31,59 +31,7 @@ use Rattle.sp_isa.specs.Effect.{effect}
 use Rattle.sp_isa.specs.Locations.{pair_locs, flags_but_carry, all_flags, arg_reads, address_reads, arg_writes, cond_reads, op_reads, alu_reads, op_writes, stack_writes, reads, writes, Agrees, IsAlike, ChangesOnlyWrites, DependsOnlyOnReads}
 use Rattle.sp_base.proofs.LocsLaws.{has_both}
 use Rattle.sp_isa.proofs.Cases.{each_reg, each_loc}
-
--- what a location has after a change of a part
-at-with_reg : (r : Reg) (v : ℕ) (core : Core) (x : Loc) → at x (with_reg r v core) ≡ cond (has x (only (loc_of r))) v (at x core)
-unfolding with_reg has only
-at-with_reg r v core x = each_reg (λ r. (x : Loc) → at x (with_reg r v core) ≡ cond (has x (only (loc_of r))) v (at x core))
-    (each_loc (λ x. at x (with_reg reg.B v core) ≡ cond (has x (only loc.B)) v (at x core)) refl refl refl refl refl refl refl refl refl refl refl refl)
-    (each_loc (λ x. at x (with_reg reg.C v core) ≡ cond (has x (only loc.C)) v (at x core)) refl refl refl refl refl refl refl refl refl refl refl refl)
-    (each_loc (λ x. at x (with_reg reg.D v core) ≡ cond (has x (only loc.D)) v (at x core)) refl refl refl refl refl refl refl refl refl refl refl refl)
-    (each_loc (λ x. at x (with_reg reg.E v core) ≡ cond (has x (only loc.E)) v (at x core)) refl refl refl refl refl refl refl refl refl refl refl refl)
-    (each_loc (λ x. at x (with_reg reg.H v core) ≡ cond (has x (only loc.H)) v (at x core)) refl refl refl refl refl refl refl refl refl refl refl refl)
-    (each_loc (λ x. at x (with_reg reg.L v core) ≡ cond (has x (only loc.L)) v (at x core)) refl refl refl refl refl refl refl refl refl refl refl refl)
-    (each_loc (λ x. at x (with_reg reg.A v core) ≡ cond (has x (only loc.A)) v (at x core)) refl refl refl refl refl refl refl refl refl refl refl refl)
-    r x
-
-at-with_flag_s : (v : ℕ) (core : Core) (x : Loc) → at x (with_flag loc.S v core) ≡ cond (has x (only loc.S)) v (at x core)
-unfolding with_flag has only
-at-with_flag_s v core = each_loc (λ x. at x (with_flag loc.S v core) ≡ cond (has x (only loc.S)) v (at x core)) refl refl refl refl refl refl refl refl refl refl refl refl
-
-at-with_flag_z : (v : ℕ) (core : Core) (x : Loc) → at x (with_flag loc.Z v core) ≡ cond (has x (only loc.Z)) v (at x core)
-unfolding with_flag has only
-at-with_flag_z v core = each_loc (λ x. at x (with_flag loc.Z v core) ≡ cond (has x (only loc.Z)) v (at x core)) refl refl refl refl refl refl refl refl refl refl refl refl
-
-at-with_flag_ac : (v : ℕ) (core : Core) (x : Loc) → at x (with_flag loc.Ac v core) ≡ cond (has x (only loc.Ac)) v (at x core)
-unfolding with_flag has only
-at-with_flag_ac v core = each_loc (λ x. at x (with_flag loc.Ac v core) ≡ cond (has x (only loc.Ac)) v (at x core)) refl refl refl refl refl refl refl refl refl refl refl refl
-
-at-with_flag_p : (v : ℕ) (core : Core) (x : Loc) → at x (with_flag loc.P v core) ≡ cond (has x (only loc.P)) v (at x core)
-unfolding with_flag has only
-at-with_flag_p v core = each_loc (λ x. at x (with_flag loc.P v core) ≡ cond (has x (only loc.P)) v (at x core)) refl refl refl refl refl refl refl refl refl refl refl refl
-
-at-with_flag_cy : (v : ℕ) (core : Core) (x : Loc) → at x (with_flag loc.Cy v core) ≡ cond (has x (only loc.Cy)) v (at x core)
-unfolding with_flag has only
-at-with_flag_cy v core = each_loc (λ x. at x (with_flag loc.Cy v core) ≡ cond (has x (only loc.Cy)) v (at x core)) refl refl refl refl refl refl refl refl refl refl refl refl
-
-at-with_cell : (a v : ℕ) (core : Core) (x : Loc) → at x (with_cell a v core) ≡ at x core
-unfolding with_cell
-at-with_cell a v core = each_loc (λ x. at x (with_cell a v core) ≡ at x core) refl refl refl refl refl refl refl refl refl refl refl refl
-
-at-with_sp : (v : ℕ) (core : Core) (x : Loc) → at x (with_sp v core) ≡ at x core
-unfolding with_sp
-at-with_sp v core = each_loc (λ x. at x (with_sp v core) ≡ at x core) refl refl refl refl refl refl refl refl refl refl refl refl
-
-at-with_pc : (v : ℕ) (core : Core) (x : Loc) → at x (with_pc v core) ≡ at x core
-unfolding with_pc
-at-with_pc v core = each_loc (λ x. at x (with_pc v core) ≡ at x core) refl refl refl refl refl refl refl refl refl refl refl refl
-
-at-with_halted : (v : Bool) (core : Core) (x : Loc) → at x (with_halted v core) ≡ at x core
-unfolding with_halted
-at-with_halted v core = each_loc (λ x. at x (with_halted v core) ≡ at x core) refl refl refl refl refl refl refl refl refl refl refl refl
-
-at-advance : (n : ℕ) (core : Core) (x : Loc) → at x (advance n core) ≡ at x core
-unfolding advance with_pc
-at-advance n core = each_loc (λ x. at x (advance n core) ≡ at x core) refl refl refl refl refl refl refl refl refl refl refl refl
+use Rattle.sp_isa.proofs.PartLemmas.{at-with_reg, at-with_flag_s, at-with_flag_z, at-with_flag_ac, at-with_flag_p, at-with_flag_cy, at-with_cell, at-with_sp, at-with_pc, at-with_halted, at-advance}
 
 -- two runs of changes, from `one` to `k` and from `two` to `l`: what they set is the same in both, and nothing else changed in the first
 record Tracks (locs : Locs) (one k l : Core) : Type 0 where

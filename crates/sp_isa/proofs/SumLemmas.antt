@@ -56,7 +56,7 @@ half_borrow_of a y b low lowy lowb = grind (arith, nat_tests)
 
 -- ---- ADD, ADC, SUB, SBB, CMP
 
-shows : (r : ℕ) (core : Core) → r < 256 → core.s ≡ one_if (nat_le 128 r) → core.z ≡ one_if (r == 0) → core.p ≡ one_if (count_ones r % 2 == 0) → ShowsResult r core
+pub shows : (r : ℕ) (core : Core) → r < 256 → core.s ≡ one_if (nat_le 128 r) → core.z ≡ one_if (r == 0) → core.p ≡ one_if (count_ones r % 2 == 0) → ShowsResult r core
 shows r core low s z p = record {
   sign = s ∙ sign_bit r low;
   zero = subst (λ v. (v ≡ 1) ↔ (r ≡ 0)) (sym z) (one_if_eq r 0);

@@ -71,7 +71,7 @@ some_undo_others = (xchg_undoes, cma_undoes, cmc_undoes, ral_undoes, rar_undoes)
 -- ---- the stack
 
 -- the cells after a high and a low byte went onto the stack
-abbrev pushed : ℕ → ℕ → Core → List ℕ
+abbrev pub pushed : ℕ → ℕ → Core → List ℕ
 pushed high low core = slice_set (slice_set core.cells ((core.sp + 65535) % 65536) high) ((core.sp + 65534) % 65536) low
 
 low_pushed : (high low : ℕ) (core : Core) → IsCore core → slice_index (pushed high low core) ((core.sp + 65534) % 65536 % 65536) ≡ low
@@ -93,16 +93,16 @@ sp_back : (sp : ℕ) → sp < 65536 → ((sp + 65534) % 65536 + 2) % 65536 ≡ s
 sp_back sp low = omega arith
 
 -- the word on the stack
-abbrev top_word : List ℕ → ℕ → ℕ
+abbrev pub top_word : List ℕ → ℕ → ℕ
 top_word cells sp = slice_index cells (sp % 65536) + 256 * slice_index cells ((sp + 1) % 65536)
 
-word_pushed : (high low : ℕ) (core : Core) → IsCore core → top_word (pushed high low core) ((core.sp + 65534) % 65536) ≡ low + 256 * high
+pub word_pushed : (high low : ℕ) (core : Core) → IsCore core → top_word (pushed high low core) ((core.sp + 65534) % 65536) ≡ low + 256 * high
 word_pushed high low core h = ap₂ (λ x y. x + 256 * y) (low_pushed high low core h) (high_pushed high low core h)
 
-high_of : (w high low : ℕ) → high < 256 → low < 256 → w ≡ low + 256 * high → w / 256 % 256 ≡ high
+pub high_of : (w high low : ℕ) → high < 256 → low < 256 → w ≡ low + 256 * high → w / 256 % 256 ≡ high
 high_of w high low lowh lowl e = omega arith
 
-low_of : (w high low : ℕ) → low < 256 → w ≡ low + 256 * high → w % 256 ≡ low
+pub low_of : (w high low : ℕ) → low < 256 → w ≡ low + 256 * high → w % 256 ≡ low
 low_of w high low lowl e = omega arith
 
 -- ---- calls and returns

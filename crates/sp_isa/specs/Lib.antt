@@ -5,6 +5,7 @@ pub mod Decode
 pub mod Effect
 pub mod Encoding
 pub mod Locations
+pub mod Moves
 pub mod Operands
 pub mod Outcome
 pub mod Stack

@@ -1,6 +1,7 @@
 //! Laws on instructions: on their codes, on what they do, and on the registers and flags that they read and write.
 ghost use Rattle.sp_isa.specs.Decode.{DecodesTheTable, DecodesCodes, NoCodeBeginsAnother, NothingDecodes};
 ghost use Rattle.sp_isa.specs.Locations.{ChangesOnlyWrites, DependsOnlyOnReads};
+ghost use Rattle.sp_isa.specs.Moves.{Exchanges, FlagsAreAByte, Loads, Moves, Operates, PartsHaveRanges};
 ghost use Rattle.sp_isa.specs.Outcome.{InstructionsLead, OtherCellsStay};
 ghost use Rattle.sp_isa.specs.Step.{EffectsKeepCores, StepsKeepCores};
 ghost use Rattle.sp_isa.specs.Sums.{Adds, Subtracts, Compares, CountsByOne, AddsPairs, CountsPairsByOne, AddsDecimals, Rotates};
@@ -126,4 +127,34 @@ pub fn conditions_are_opposites()
 /// After CMP and CPI: Z holds exactly where A is the byte, and C exactly where A is below it.
 pub fn comparisons_tell_order()
     ensures { ComparisonsTell }
+{}
+
+/// MOV and MVI: the first operand takes the second; LXI: the pair takes the word.
+pub fn moves_copy()
+    ensures { Moves }
+{}
+
+/// LDA, LDAX, LHLD and XTHL: registers take cells; IN: A takes the input.
+pub fn loads_take_cells()
+    ensures { Loads }
+{}
+
+/// XCHG exchanges DE and HL; CMA, STC and CMC.
+pub fn exchanges_go_both_ways()
+    ensures { Exchanges }
+{}
+
+/// ANA, XRA and ORA: the result, CY, AC, and S, Z and P.
+pub fn logic_goes_by_bits()
+    ensures { Operates }
+{}
+
+/// The flags go onto the stack as the byte S Z 0 AC 0 P 1 CY.
+pub fn flags_are_a_byte()
+    ensures { FlagsAreAByte }
+{}
+
+/// Registers and cells are bytes, and flags are 0 or 1.
+pub fn parts_have_ranges()
+    ensures { PartsHaveRanges }
 {}

@@ -1,2 +1,2 @@
-pub mod MachineLaws
+pub mod MachineLemmas
 pub mod PortLemmas

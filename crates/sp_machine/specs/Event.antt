@@ -1,15 +1,11 @@
 -- What a step answers.
-use Rattle.std.specs.Prelude.{ℕ, ◌+◌, List, [], ◌∷◌, Option, Some, None, if◌then◌else◌}
+use Rattle.std.specs.Prelude.{Option, Some, None, ℕ, if◌then◌else◌}
 use Rattle.sp_isa.specs.declared.instr.Instr.{Instr}
 use Rattle.sp_isa.specs.declared.instr.Instr.TheVariants as instr
 use Rattle.sp_isa.specs.Core.{Core, cell}
 use Rattle.sp_isa.specs.Step.{instr_at}
 use Rattle.sp_machine.specs.declared.event.Event.{Event}
 use Rattle.sp_machine.specs.declared.event.Event.TheVariants.{Plain, In, Out, Halted, Stuck}
-
--- the three bytes at the program counter
-abbrev pub fetched : Core → List ℕ
-fetched core = cell core.pc core ∷ cell (core.pc + 1) core ∷ cell (core.pc + 2) core ∷ []
 
 -- what an instruction answers
 abbrev pub event_of : Instr → Core → Event

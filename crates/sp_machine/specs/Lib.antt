@@ -1,3 +1,3 @@
+pub mod code
 pub mod Event
-pub mod Machine
 pub mod Ports

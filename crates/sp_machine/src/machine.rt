@@ -31,7 +31,7 @@ impl Model for Machine {
 
     ghost Value = { Core };
 
-    ghost use Rattle.sp_machine.specs.Machine.{core_of, IsMachine};
+    ghost use Rattle.sp_machine.specs.code.Machine.{core_of, IsMachine};
 
     ghost view = { core_of };
 
@@ -88,7 +88,7 @@ impl Machine {
     }
 
     /// The byte in a register.
-    #[tactic(auto, using(crate::proofs::MachineLaws::is_core))]
+    #[tactic(auto, using(crate::proofs::MachineLemmas::is_core))]
     pub fn reg(&self, r: Reg) -> u8
         ensures value { result ≡ reg_of r self.now }
         ensures core { IsCore self.now }
@@ -121,7 +121,7 @@ impl Machine {
     }
 
     /// The stack pointer.
-    #[tactic(auto, using(crate::proofs::MachineLaws::is_core))]
+    #[tactic(auto, using(crate::proofs::MachineLemmas::is_core))]
     pub fn sp(&self) -> u16
         ensures value { result ≡ self.now.sp }
         ensures core { IsCore self.now }
@@ -130,7 +130,7 @@ impl Machine {
     }
 
     /// The program counter.
-    #[tactic(auto, using(crate::proofs::MachineLaws::is_core))]
+    #[tactic(auto, using(crate::proofs::MachineLemmas::is_core))]
     pub fn pc(&self) -> u16
         ensures value { result ≡ self.now.pc }
         ensures core { IsCore self.now }
@@ -139,7 +139,7 @@ impl Machine {
     }
 
     /// The byte at an address.
-    #[tactic(auto, using(crate::proofs::MachineLaws::is_core))]
+    #[tactic(auto, using(crate::proofs::MachineLemmas::is_core))]
     pub fn cell(&self, a: u16) -> u8
         ensures value { result ≡ cell a self.now }
         ensures core { IsCore self.now }
@@ -148,7 +148,7 @@ impl Machine {
     }
 
     /// Whether a HLT has run.
-    #[tactic(auto, using(crate::proofs::MachineLaws::is_core))]
+    #[tactic(auto, using(crate::proofs::MachineLemmas::is_core))]
     pub fn halted(&self) -> bool
         ensures value { result ≡ self.now.halted }
         ensures core { IsCore self.now }

@@ -1,8 +1,9 @@
 ghost use Rattle.std.specs.Prelude.{◌≡◌};
 ghost use Rattle.sp_isa.specs.Core.{IsCore};
 ghost use Rattle.sp_isa.specs.Step.{step};
-ghost use Rattle.sp_machine.specs.Event.{event, event_of, fetched};
+ghost use Rattle.sp_machine.specs.Event.{event, event_of};
 ghost use Rattle.sp_machine.specs.Ports.{IsModelStep};
+ghost use Rattle.sp_machine.specs.code.Machine.{fetched};
 
 use crate::{Event, Machine};
 use sp_base::Reg;

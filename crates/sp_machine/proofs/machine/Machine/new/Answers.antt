@@ -1,5 +1,5 @@
 use Rattle.std.proofs.Common.{◌≡◌, ◌<◌, lit<, arith, refl}
-use Rattle.sp_machine.proofs.MachineLaws.{all_same, at-zeros}
+use Rattle.sp_machine.proofs.MachineLemmas.{all_same, at-zeros}
 use Rattle.sp_machine.proofs.machine.Machine.new.Goals as goal
 
 pub invariant_of-result : goal.invariant_of-result

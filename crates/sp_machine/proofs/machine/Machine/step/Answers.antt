@@ -3,7 +3,7 @@ use Rattle.sp_isa.specs.Core.{cell}
 use Rattle.sp_isa.specs.Step.{step}
 use Rattle.sp_machine.specs.declared.event.Event.TheVariants.{Halted, Stuck}
 use Rattle.sp_machine.specs.Event.{event}
-use Rattle.sp_machine.proofs.MachineLaws.{still_core}
+use Rattle.sp_machine.proofs.MachineLemmas.{still_core}
 use Rattle.sp_machine.proofs.PortLemmas.{is_model_step}
 use Rattle.sp_machine.proofs.machine.Machine.step.Goals as goal
 

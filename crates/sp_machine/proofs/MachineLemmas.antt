@@ -7,7 +7,7 @@ use Rattle.sp_isa.specs.Core.{Core, at, limit, IsCore}
 use Rattle.sp_isa.specs.Step.{step}
 use Rattle.sp_isa.proofs.CoreLemmas.{steps_keep_cores}
 use Rattle.sp_machine.specs.declared.machine.Machine.TheInside.{Inside}
-use Rattle.sp_machine.specs.Machine.{core_of, IsMachine}
+use Rattle.sp_machine.specs.code.Machine.{core_of, IsMachine}
 
 locations : (m : Inside) → IsMachine m → (x : Loc) → at x (core_of m) < limit x
 locations m i loc.A = i.a

@@ -1,6 +1,6 @@
--- The machine's fields as a core.
-use Rattle.std.specs.Prelude.{◌≡◌, ◌<◌, length, All}
-use Rattle.sp_isa.specs.Core.{Core}
+-- The machine's fields as a core, and what it fetches.
+use Rattle.std.specs.Prelude.{◌≡◌, ◌<◌, ◌+◌, ℕ, List, [], ◌∷◌, length, All}
+use Rattle.sp_isa.specs.Core.{Core, cell}
 use Rattle.sp_machine.specs.declared.machine.Machine.TheInside.{Inside}
 
 -- the core that the fields stand for
@@ -42,3 +42,7 @@ pub record IsMachine (m : Inside) : Type 0 where
   pub pc : m.pc < 65536
   pub memory : length m.cells.items ≡ 65536
   pub bytes : All (λ byte. byte < 256) m.cells.items
+
+-- the three bytes at the program counter
+abbrev pub fetched : Core → List ℕ
+fetched core = cell core.pc core ∷ cell (core.pc + 1) core ∷ cell (core.pc + 2) core ∷ []
