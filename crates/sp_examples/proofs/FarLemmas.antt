@@ -73,14 +73,14 @@ lands w s small long room top loaded =
     ∙ ap (λ x. record s { core = record s.core { b = w / 256 % 256; c = w % 256; sp = x; pc = w; halted = false; cells = pushed_cells (aimed w s).core } }) sp_is
 
 -- the parts of a run from a state with room
-record Ran (w : ℕ) (s : State) : Type 0 where
+record RunParts (w : ℕ) (s : State) : Type 0 where
   first : Loaded (maps.from_sorted (cells w)) (aimed w s)
   second : Loaded (maps.from_sorted (cells w)) (put w s)
   third : Loaded (maps.from_sorted (cells w)) (landed w s)
   kept : Keeps (alone (far w)) (far w) (placed s 0x100) (put w s)
 
-ran : (w : ℕ) (s : State) → 0x2302 ≤ s.core.sp → s.core.sp < 0x2400 → Loaded (maps.from_sorted (cells w)) (placed s 0x100) → Ran w s
-ran w s below above loaded =
+parts_of : (w : ℕ) (s : State) → 0x2302 ≤ s.core.sp → s.core.sp < 0x2400 → Loaded (maps.from_sorted (cells w)) (placed s 0x100) → RunParts w s
+parts_of w s below above loaded =
     let u : Unit = alone (far w) in
     let r : Routine = far w in
     let t : State = placed s 0x100 in
@@ -120,7 +120,7 @@ from_entry w s small entry rest =
     let below : 0x2302 ≤ s.core.sp = room.below in
     let above : s.core.sp + 1 ≤ 0x23FF = room.above in
     let top : s.core.sp < 65536 = entry.state.core.sp in
-    let parts = ran w s below (omega arith) entry.loaded in
+    let parts = parts_of w s below (omega arith) entry.loaded in
     let silent : HasNoAsserts r.code = (refl, (refl, (refl, (refl, tt)))) in
     goes u r t t (aimed w s)
     (good_step u r t t (Lxi pair.B w) 3 (fetches_lxi w s entry.loaded) (keeps_itself u r t) (r, (0, lit< tt, refl), (_, (0, lit< tt, refl), refl)) (unasserted u r t t silent) (λ port h. cc) refl)
@@ -142,7 +142,7 @@ far_good = all_alone (far 0x105) (λ s entry.
     let room = entry.room refl in
     let below : 0x2302 ≤ s.core.sp = room.below in
     let above : s.core.sp + 1 ≤ 0x23FF = room.above in
-    let parts = ran 0x105 s below (omega arith) entry.loaded in
+    let parts = parts_of 0x105 s below (omega arith) entry.loaded in
     from_entry 0x105 s (lit< tt) entry
     (finish u r t v refl (fetch (cells 0x105) v Ret refl parts.third refl refl) entry.state
     (keeps_still u r t (put 0x105 s) v parts.kept refl refl)
@@ -170,7 +170,7 @@ far_bad good =
     let r : Routine = far 0x106 in
     let u : Unit = alone r in
     let s : State = ready (cells 0x106) 0x100 0x2380 in
-    let parts = ran 0x106 s (lit≤ tt) (lit< tt) bad_entry.loaded in
+    let parts = parts_of 0x106 s (lit≤ tt) (lit< tt) bad_entry.loaded in
     let one : run s 1 ≡ aimed 0x106 s = aims 0x106 s bad_entry.loaded in
     let two : run s 2 ≡ put 0x106 s = ap step one ∙ puts 0x106 s parts.first in
     let three : run s 3 ≡ landed 0x106 s = ap step two ∙ lands 0x106 s (lit< tt) (memory_long (cells 0x106)) (lit≤ tt) (lit< tt) parts.second in
