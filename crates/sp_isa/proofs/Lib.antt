@@ -3,6 +3,7 @@ pub mod CodeLaws
 pub mod CodeLemmas
 pub mod CoreLaws
 pub mod CoreLemmas
+pub mod FetchLemmas
 pub mod LocationLemmas
 pub mod MoveLemmas
 pub mod OutcomeLemmas

@@ -4,6 +4,7 @@ pub mod Core
 pub mod Decode
 pub mod Effect
 pub mod Encoding
+pub mod Fetch
 pub mod Locations
 pub mod Moves
 pub mod Operands

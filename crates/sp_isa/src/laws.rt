@@ -1,5 +1,6 @@
 //! Laws on instructions: on their codes, on what they do, and on the registers and flags that they read and write.
 ghost use Rattle.sp_isa.specs.Decode.{DecodesTheTable, DecodesCodes, NoCodeBeginsAnother, NothingDecodes};
+ghost use Rattle.sp_isa.specs.Fetch.{CodeIsFetched, FetchedIsCode};
 ghost use Rattle.sp_isa.specs.Locations.{ChangesOnlyWrites, DependsOnlyOnReads};
 ghost use Rattle.sp_isa.specs.Moves.{Exchanges, FlagsAreAByte, Loads, Moves, Operates, PartsHaveRanges};
 ghost use Rattle.sp_isa.specs.Outcome.{InstructionsLead, OtherCellsStay};
@@ -157,4 +158,14 @@ pub fn flags_are_a_byte()
 /// Registers and cells are bytes, and flags are 0 or 1.
 pub fn parts_have_ranges()
     ensures { PartsHaveRanges }
+{}
+
+/// Where the code of a valid instruction lies in memory, that instruction begins.
+pub fn code_is_fetched()
+    ensures { CodeIsFetched }
+{}
+
+/// Where an instruction begins, it is a valid one, and its code lies there.
+pub fn fetched_is_code()
+    ensures { FetchedIsCode }
 {}
