@@ -14,35 +14,37 @@ use Rattle.sp_isa.specs.declared.instr.Instr.{Instr}
 use Rattle.sp_isa.specs.declared.instr.Instr.TheVariants as instr
 use Rattle.sp_isa.specs.Code.{valid}
 use Rattle.sp_stmt.specs.declared.body.Body.{Body}
-use Rattle.sp_stmt.specs.declared.mnemonic.DataKind.{DataKind}
-use Rattle.sp_stmt.specs.declared.mnemonic.DataKind.TheVariants.{Bytes, Words}
-use Rattle.sp_stmt.specs.declared.mnemonic.ExpressionKind.{ExpressionKind}
-use Rattle.sp_stmt.specs.declared.mnemonic.ExpressionKind.TheVariants as kind
-use Rattle.sp_stmt.specs.declared.mnemonic.Load.TheVariants as load
-use Rattle.sp_stmt.specs.declared.mnemonic.Mnemonic.{Mnemonic}
-use Rattle.sp_stmt.specs.declared.mnemonic.Mnemonic.TheVariants as mnemonic
-use Rattle.sp_stmt.specs.declared.mnemonic.PairForm.{PairForm}
-use Rattle.sp_stmt.specs.declared.mnemonic.PairForm.TheVariants.{Dad, Inx, Dcx, Stax, Ldax}
-use Rattle.sp_stmt.specs.declared.mnemonic.RegisterForm.{RegisterForm}
-use Rattle.sp_stmt.specs.declared.mnemonic.RegisterForm.TheVariants.{Inr, Dcr, Alu}
-use Rattle.sp_stmt.specs.declared.mnemonic.StackForm.{StackForm}
-use Rattle.sp_stmt.specs.declared.mnemonic.StackForm.TheVariants.{Push, Pop}
+use Rattle.sp_words.specs.declared.mnemonic.DataKind.{DataKind}
+use Rattle.sp_words.specs.declared.mnemonic.DataKind.TheVariants.{Bytes, Words}
+use Rattle.sp_words.specs.declared.mnemonic.ExpressionKind.{ExpressionKind}
+use Rattle.sp_words.specs.declared.mnemonic.ExpressionKind.TheVariants as kind
+use Rattle.sp_words.specs.declared.mnemonic.Load.TheVariants as load
+use Rattle.sp_words.specs.declared.mnemonic.Mnemonic.{Mnemonic}
+use Rattle.sp_words.specs.declared.mnemonic.Mnemonic.TheVariants as mnemonic
+use Rattle.sp_words.specs.declared.mnemonic.PairForm.{PairForm}
+use Rattle.sp_words.specs.declared.mnemonic.PairForm.TheVariants.{Dad, Inx, Dcx, Stax, Ldax}
+use Rattle.sp_words.specs.declared.mnemonic.RegisterForm.{RegisterForm}
+use Rattle.sp_words.specs.declared.mnemonic.RegisterForm.TheVariants.{Inr, Dcr, Alu}
+use Rattle.sp_words.specs.declared.mnemonic.StackForm.{StackForm}
+use Rattle.sp_words.specs.declared.mnemonic.StackForm.TheVariants.{Push, Pop}
 use Rattle.sp_stmt.specs.declared.operand.Operand.{Operand}
 use Rattle.sp_stmt.specs.declared.statement.Code.{Code}
 use Rattle.sp_stmt.specs.declared.statement.Code.TheVariants as code
 use Rattle.sp_stmt.specs.code.Bodies.{body, with_register, with_pair, with_stack_pair, moved, plain, with_operands, with_expression, load_with, load_body, register_instr, pair_instr, stack_instr, move_instr, body_of}
 use Rattle.sp_stmt.specs.code.Data.{in_front, items_of, if_text, lone_text, byte_item, item_of, behind, one_operand, data_of}
 use Rattle.sp_stmt.specs.code.Expressions.{checked_words, expression_of, operand_from, operand_of}
-use Rattle.sp_stmt.specs.Grammar.{arg_name, pair_name, stack_pair_name, Says, IsBare, IsWord, IsValue, AreItems, StandsBehind, AreOperandsOf, IsCode}
-use Rattle.sp_stmt.specs.Manual.{mnemonic_of, form_of}
-use Rattle.sp_stmt.specs.Mnemonics.{mnemonic_named}
+use Rattle.sp_words.specs.Registers.{arg_name, pair_name, stack_pair_name}
+use Rattle.sp_stmt.specs.Grammar.{Says, IsBare, IsWord, IsValue, AreItems, StandsBehind, AreOperandsOf, IsCode}
+use Rattle.sp_words.specs.Manual.{mnemonic_of, form_of}
+use Rattle.sp_words.specs.code.Tables.{mnemonic_named}
 use Rattle.sp_stmt.specs.Tokens.{is_comma, arg_at, pair_at, stack_pair_at, mnemonic_at}
 use Rattle.sp_stmt.proofs.DataFormLaws.{data_exact}
 use Rattle.sp_stmt.proofs.ExactLaws.{Exact, none, exact-map, exact-none}
 use Rattle.sp_stmt.proofs.FormLaws.{Shallow, body_is, value_exact, alone_exact, HasWord, HasLoad, HasMove, one_word, one_load, word_exact, load_exact, move_exact, end_exact}
 use Rattle.sp_stmt.proofs.ItemLaws.{behind-syntax}
 use Rattle.sp_stmt.proofs.MarkLaws.{StandsInNone}
-use Rattle.sp_stmt.proofs.NameTableLaws.{arg_says, pair_says, stack_pair_says, manual_name, mnemonic_found, mnemonic_says, mnemonic_said}
+use Rattle.sp_stmt.proofs.NameLemmas.{arg_says, pair_says, stack_pair_says, manual_name, mnemonic_says, mnemonic_said}
+use Rattle.sp_words.proofs.NameLemmas.{mnemonic_found}
 
 -- what stands behind a mnemonic or directive, by the form of its operands
 abbrev pub Behind : Mnemonic → List ℕ → List Token → Body → Type 0

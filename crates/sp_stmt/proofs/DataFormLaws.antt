@@ -10,9 +10,9 @@ use Rattle.sp_lex.specs.Texts.{characters_of}
 use Rattle.sp_expr.specs.declared.refusal.ParseRefusal.{ParseRefusal}
 use Rattle.sp_expr.specs.declared.word.Word.{Word}
 use Rattle.sp_expr.specs.Words.{text_of}
-use Rattle.sp_stmt.specs.declared.mnemonic.DataKind.{DataKind}
-use Rattle.sp_stmt.specs.declared.mnemonic.DataKind.TheVariants.{Bytes, Words}
-use Rattle.sp_stmt.specs.declared.mnemonic.ExpressionKind.TheVariants as kind
+use Rattle.sp_words.specs.declared.mnemonic.DataKind.{DataKind}
+use Rattle.sp_words.specs.declared.mnemonic.DataKind.TheVariants.{Bytes, Words}
+use Rattle.sp_words.specs.declared.mnemonic.ExpressionKind.TheVariants as kind
 use Rattle.sp_stmt.specs.declared.operand.Operand.{Operand}
 use Rattle.sp_stmt.specs.declared.operand.Operand.TheVariants as operand
 use Rattle.sp_stmt.specs.code.Data.{in_front, items_of, text_operand, if_text, lone_text, byte_item, item_of, behind, one_operand, data_of}

@@ -19,8 +19,8 @@ use Rattle.sp_isa.specs.declared.instr.Instr.{Instr}
 use Rattle.sp_isa.specs.declared.instr.Instr.TheVariants as instr
 use Rattle.sp_isa.specs.Code.{valid}
 use Rattle.sp_stmt.specs.declared.body.Body.{Body}
-use Rattle.sp_stmt.specs.declared.mnemonic.ExpressionKind.{ExpressionKind}
-use Rattle.sp_stmt.specs.declared.mnemonic.ExpressionKind.TheVariants as kind
+use Rattle.sp_words.specs.declared.mnemonic.ExpressionKind.{ExpressionKind}
+use Rattle.sp_words.specs.declared.mnemonic.ExpressionKind.TheVariants as kind
 use Rattle.sp_stmt.specs.declared.operand.Operand.{Operand}
 use Rattle.sp_stmt.specs.declared.statement.Code.{Code}
 use Rattle.sp_stmt.specs.declared.statement.Code.TheVariants as code
@@ -28,10 +28,11 @@ use Rattle.sp_stmt.specs.code.Bodies.{body, alone, moved, plain, with_operands, 
 use Rattle.sp_stmt.specs.code.Data.{one_operand}
 use Rattle.sp_stmt.specs.Operands.{used_as}
 use Rattle.sp_stmt.specs.code.Expressions.{checked_words, expression_of, operand_from, operand_of}
-use Rattle.sp_stmt.specs.Grammar.{arg_name, Says, IsExpression, IsBare, IsWord, AreWords, IsValue, IsLoad, NestsWithin, IsShallow}
+use Rattle.sp_words.specs.Registers.{arg_name}
+use Rattle.sp_stmt.specs.Grammar.{Says, IsExpression, IsBare, IsWord, AreWords, IsValue, IsLoad, NestsWithin, IsShallow}
 use Rattle.sp_stmt.specs.Tokens.{is_comma, arg_at}
 use Rattle.sp_stmt.proofs.ExactLaws.{Exact, found, deep, none, exact-same, exact-map}
-use Rattle.sp_stmt.proofs.NameTableLaws.{arg_says}
+use Rattle.sp_stmt.proofs.NameLemmas.{arg_says}
 
 -- expressions
 

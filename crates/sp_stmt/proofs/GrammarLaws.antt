@@ -9,26 +9,26 @@ use Rattle.sp_expr.specs.declared.refusal.ParseRefusal.{ParseRefusal}
 use Rattle.sp_expr.specs.declared.refusal.ParseRefusal.TheVariants.{Syntax}
 use Rattle.sp_expr.specs.Reserved.{is_reserved}
 use Rattle.sp_stmt.specs.declared.body.Body.{Body}
-use Rattle.sp_stmt.specs.declared.mnemonic.Assignment.{Assignment}
-use Rattle.sp_stmt.specs.declared.mnemonic.Assignment.TheVariants.{Equ, Set}
-use Rattle.sp_stmt.specs.declared.mnemonic.ExpressionKind.TheVariants as kind
-use Rattle.sp_stmt.specs.declared.mnemonic.Load.TheVariants as load
-use Rattle.sp_stmt.specs.declared.mnemonic.Mnemonic.{Mnemonic}
-use Rattle.sp_stmt.specs.declared.mnemonic.Mnemonic.TheVariants as mnemonic
+use Rattle.sp_words.specs.declared.mnemonic.Assignment.{Assignment}
+use Rattle.sp_words.specs.declared.mnemonic.Assignment.TheVariants.{Equ, Set}
+use Rattle.sp_words.specs.declared.mnemonic.ExpressionKind.TheVariants as kind
+use Rattle.sp_words.specs.declared.mnemonic.Load.TheVariants as load
+use Rattle.sp_words.specs.declared.mnemonic.Mnemonic.{Mnemonic}
+use Rattle.sp_words.specs.declared.mnemonic.Mnemonic.TheVariants as mnemonic
 use Rattle.sp_stmt.specs.declared.operand.Operand.{Operand}
 use Rattle.sp_stmt.specs.declared.statement.Code.{Code}
 use Rattle.sp_stmt.specs.declared.statement.Code.TheVariants as code
 use Rattle.sp_stmt.specs.declared.statement.Statement.{Statement}
 use Rattle.sp_stmt.specs.code.Bodies.{body, body_of}
 use Rattle.sp_stmt.specs.Grammar.{Says, Names, IsValue, IsShallow, IsCode, IsLabel, Assigns, IsLabelled, IsUnlabelled, IsForm, IsLine}
-use Rattle.sp_stmt.specs.Mnemonics.{mnemonic_named}
+use Rattle.sp_words.specs.code.Tables.{mnemonic_named}
 use Rattle.sp_stmt.specs.code.Reading.{statement, with_body, refuses_label, with_code, coded, labelled, assigning, assigned, unlabelled, statement_of}
 use Rattle.sp_stmt.specs.Tokens.{is_colon, name_at, unless_reserved, own_name_at, mnemonic_at, assignment_of, assignment_at}
 use Rattle.sp_stmt.proofs.BodyLaws.{Behind, body_exact, code_behind, behind_code, code_none}
 use Rattle.sp_stmt.proofs.ExactLaws.{Exact, found, none, exact-same, exact-map}
 use Rattle.sp_stmt.proofs.FormLaws.{Shallow, value_exact}
 use Rattle.sp_stmt.proofs.MarkLaws.{StandsInNone, colon_no_name, colon_in_none, equ_in_none, set_in_none}
-use Rattle.sp_stmt.proofs.NameTableLaws.{by_name, manual_name, mnemonic_says, mnemonic_said}
+use Rattle.sp_stmt.proofs.NameLemmas.{by_name, manual_name, mnemonic_says, mnemonic_said}
 
 -- a statement whose expressions are shallow
 abbrev AllShallow : Statement → Type 0

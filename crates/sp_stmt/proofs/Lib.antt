@@ -7,7 +7,6 @@ pub mod GrammarLaws
 pub mod ItemLaws
 pub mod LineLaws
 pub mod MarkLaws
-pub mod NameTableLaws
-pub mod ReservedLaws
+pub mod NameLemmas
 pub mod SourceLemmas
 pub mod StatementLaws

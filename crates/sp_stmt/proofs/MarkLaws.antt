@@ -10,7 +10,7 @@ use Rattle.sp_lex.specs.Names.{folded}
 use Rattle.sp_expr.specs.declared.word.Word.{Word}
 use Rattle.sp_expr.specs.Reserved.{is_reserved}
 use Rattle.sp_expr.specs.Words.{operator_named, name_word, symbol_word, word_of, words_of, with_word, text_of}
-use Rattle.sp_stmt.specs.Registers.{arg_named, pair_named, stack_pair_named}
+use Rattle.sp_words.specs.code.Tables.{arg_named, pair_named, stack_pair_named}
 use Rattle.sp_stmt.specs.Tokens.{is_mark, is_comma, is_colon, name_in, name_at, arg_at, pair_at, stack_pair_at}
 
 -- a comma is no word of an expression

@@ -24,23 +24,23 @@ use Rattle.sp_isa.specs.declared.instr.Instr.{Instr}
 use Rattle.sp_isa.specs.declared.instr.Instr.TheVariants as instr
 use Rattle.sp_isa.specs.Code.{valid}
 use Rattle.sp_stmt.specs.declared.body.Body.{Body}
-use Rattle.sp_stmt.specs.declared.mnemonic.Assignment.{Assignment}
-use Rattle.sp_stmt.specs.declared.mnemonic.Assignment.TheVariants.{Equ, Set}
-use Rattle.sp_stmt.specs.declared.mnemonic.DataKind.{DataKind}
-use Rattle.sp_stmt.specs.declared.mnemonic.DataKind.TheVariants.{Bytes, Words}
-use Rattle.sp_stmt.specs.declared.mnemonic.ExpressionKind.{ExpressionKind}
-use Rattle.sp_stmt.specs.declared.mnemonic.ExpressionKind.TheVariants as kind
-use Rattle.sp_stmt.specs.declared.mnemonic.Load.{Load}
-use Rattle.sp_stmt.specs.declared.mnemonic.Load.TheVariants as load
-use Rattle.sp_stmt.specs.declared.mnemonic.Mnemonic.{Mnemonic}
-use Rattle.sp_stmt.specs.declared.mnemonic.Mnemonic.TheVariants as mnemonic
-use Rattle.sp_stmt.specs.declared.mnemonic.TheConstants.{MNEMONICS}
-use Rattle.sp_stmt.specs.declared.mnemonic.PairForm.{PairForm}
-use Rattle.sp_stmt.specs.declared.mnemonic.PairForm.TheVariants.{Dad, Inx, Dcx, Stax, Ldax}
-use Rattle.sp_stmt.specs.declared.mnemonic.RegisterForm.{RegisterForm}
-use Rattle.sp_stmt.specs.declared.mnemonic.RegisterForm.TheVariants.{Inr, Dcr, Alu}
-use Rattle.sp_stmt.specs.declared.mnemonic.StackForm.{StackForm}
-use Rattle.sp_stmt.specs.declared.mnemonic.StackForm.TheVariants.{Push, Pop}
+use Rattle.sp_words.specs.declared.mnemonic.Assignment.{Assignment}
+use Rattle.sp_words.specs.declared.mnemonic.Assignment.TheVariants.{Equ, Set}
+use Rattle.sp_words.specs.declared.mnemonic.DataKind.{DataKind}
+use Rattle.sp_words.specs.declared.mnemonic.DataKind.TheVariants.{Bytes, Words}
+use Rattle.sp_words.specs.declared.mnemonic.ExpressionKind.{ExpressionKind}
+use Rattle.sp_words.specs.declared.mnemonic.ExpressionKind.TheVariants as kind
+use Rattle.sp_words.specs.declared.mnemonic.Load.{Load}
+use Rattle.sp_words.specs.declared.mnemonic.Load.TheVariants as load
+use Rattle.sp_words.specs.declared.mnemonic.Mnemonic.{Mnemonic}
+use Rattle.sp_words.specs.declared.mnemonic.Mnemonic.TheVariants as mnemonic
+use Rattle.sp_words.specs.declared.mnemonic.TheConstants.{MNEMONICS}
+use Rattle.sp_words.specs.declared.mnemonic.PairForm.{PairForm}
+use Rattle.sp_words.specs.declared.mnemonic.PairForm.TheVariants.{Dad, Inx, Dcx, Stax, Ldax}
+use Rattle.sp_words.specs.declared.mnemonic.RegisterForm.{RegisterForm}
+use Rattle.sp_words.specs.declared.mnemonic.RegisterForm.TheVariants.{Inr, Dcr, Alu}
+use Rattle.sp_words.specs.declared.mnemonic.StackForm.{StackForm}
+use Rattle.sp_words.specs.declared.mnemonic.StackForm.TheVariants.{Push, Pop}
 use Rattle.sp_stmt.specs.declared.operand.Operand.{Operand}
 use Rattle.sp_stmt.specs.declared.statement.Code.{Code}
 use Rattle.sp_stmt.specs.declared.statement.Code.TheVariants as code
@@ -49,7 +49,7 @@ use Rattle.sp_stmt.specs.code.Bodies.{body, with_register, with_pair, with_stack
 use Rattle.sp_stmt.specs.code.Data.{in_front, text_operand, lone_text, byte_item, item_of, behind, one_operand, data_of, items_of}
 use Rattle.sp_stmt.specs.Operands.{used_as}
 use Rattle.sp_stmt.specs.code.Expressions.{checked_words, expression_of, operand_from, operand_of}
-use Rattle.sp_stmt.specs.Mnemonics.{mnemonic_named}
+use Rattle.sp_words.specs.code.Tables.{mnemonic_named}
 use Rattle.sp_stmt.specs.code.Reading.{Fault, with_first, then_statements, is_statement, statements_from, statements_of, statement, with_body, refuses_label, with_code, coded, labelled, assigned, unlabelled, statement_of}
 use Rattle.sp_stmt.specs.Statements.{IsInTable, HaveTree, IsExpressed, IsItem, operand_kind, AreUsedAs, AreFor, IsStatement}
 use Rattle.sp_stmt.specs.Tokens.{name_at, arg_at, pair_at, stack_pair_at, mnemonic_at, is_comma, is_colon, own_name_at, assignment_at}

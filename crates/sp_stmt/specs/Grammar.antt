@@ -2,10 +2,6 @@
 -- descriptions of instructions and directives; names of at most 31 characters, labels alone on a line and no label before ORG and END
 -- are this project's own).
 use Rattle.std.specs.Prelude.{◌≡◌, ◌⊎◌, ◌≤◌, ℕ, List, [], ◌∷◌, ◌++◌, Option, Some, None, IsTrue, IsFalse, codes, ⊤}
-use Rattle.sp_base.specs.declared.pair.Pair.{Pair}
-use Rattle.sp_base.specs.declared.pair.Pair.TheVariants as pair
-use Rattle.sp_base.specs.declared.location.Reg.{Reg}
-use Rattle.sp_base.specs.declared.location.Reg.TheVariants as reg
 use Rattle.sp_lex.specs.declared.token.Token.{Token}
 use Rattle.sp_lex.specs.declared.token.TokenKind.TheVariants as token
 use Rattle.sp_lex.specs.Texts.{characters_of}
@@ -13,51 +9,22 @@ use Rattle.sp_expr.specs.declared.word.Word.{Word}
 use Rattle.sp_expr.specs.Reserved.{is_reserved}
 use Rattle.sp_expr.specs.Trees.{Tree, Spells, depth_of}
 use Rattle.sp_expr.specs.Words.{words_of, text_of}
-use Rattle.sp_isa.specs.declared.instr.Arg.{Arg}
-use Rattle.sp_isa.specs.declared.instr.Arg.TheVariants as arg
-use Rattle.sp_isa.specs.declared.instr.StackPair.{StackPair}
-use Rattle.sp_isa.specs.declared.instr.StackPair.TheVariants as stack
 use Rattle.sp_isa.specs.declared.instr.Instr.{Instr}
 use Rattle.sp_isa.specs.declared.instr.Instr.TheVariants as instr
 use Rattle.sp_isa.specs.Code.{valid}
-use Rattle.sp_stmt.specs.declared.mnemonic.DataKind.{DataKind}
-use Rattle.sp_stmt.specs.declared.mnemonic.DataKind.TheVariants.{Bytes, Words}
-use Rattle.sp_stmt.specs.declared.mnemonic.ExpressionKind.{ExpressionKind}
-use Rattle.sp_stmt.specs.declared.mnemonic.ExpressionKind.TheVariants as kind
+use Rattle.sp_words.specs.declared.mnemonic.DataKind.{DataKind}
+use Rattle.sp_words.specs.declared.mnemonic.DataKind.TheVariants.{Bytes, Words}
+use Rattle.sp_words.specs.declared.mnemonic.ExpressionKind.{ExpressionKind}
+use Rattle.sp_words.specs.declared.mnemonic.ExpressionKind.TheVariants as kind
 use Rattle.sp_stmt.specs.declared.operand.Operand.{Operand}
 use Rattle.sp_stmt.specs.declared.operand.Operand.TheVariants as operand
 use Rattle.sp_stmt.specs.declared.statement.Code.{Code}
 use Rattle.sp_stmt.specs.declared.statement.Code.TheVariants as code
 use Rattle.sp_stmt.specs.declared.statement.Statement.{Statement}
 use Rattle.sp_stmt.specs.Operands.{used_as}
-use Rattle.sp_stmt.specs.Manual.{mnemonic_of}
+use Rattle.sp_words.specs.Manual.{mnemonic_of}
+use Rattle.sp_words.specs.Registers.{arg_name, pair_name, stack_pair_name}
 use Rattle.sp_stmt.specs.Tokens.{is_comma, is_colon, name_at}
-
--- the names of registers, of pairs by their first registers, and of what PUSH and POP take
-abbrev pub register_name : Reg → List ℕ
-register_name reg.A = codes "A"
-register_name reg.B = codes "B"
-register_name reg.C = codes "C"
-register_name reg.D = codes "D"
-register_name reg.E = codes "E"
-register_name reg.H = codes "H"
-register_name reg.L = codes "L"
-
-abbrev pub arg_name : Arg → List ℕ
-arg_name (arg.Reg r) = register_name r
-arg_name arg.M = codes "M"
-
-abbrev pub pair_name : Pair → List ℕ
-pair_name pair.B = codes "B"
-pair_name pair.D = codes "D"
-pair_name pair.H = codes "H"
-pair_name pair.Sp = codes "SP"
-
-abbrev pub stack_pair_name : StackPair → List ℕ
-stack_pair_name stack.B = codes "B"
-stack_pair_name stack.D = codes "D"
-stack_pair_name stack.H = codes "H"
-stack_pair_name stack.Psw = codes "PSW"
 
 -- a token that is this word, in letters of either case
 abbrev pub Says : List ℕ → List ℕ → Token → Type 0

@@ -1,9 +1,6 @@
 pub mod code
 pub mod Grammar
-pub mod Manual
-pub mod Mnemonics
 pub mod Operands
-pub mod Registers
 pub mod Source
 pub mod Statements
 pub mod Tokens

@@ -5,8 +5,8 @@ use Rattle.sp_expr.specs.Trees.{Tree, Spells}
 use Rattle.sp_isa.specs.declared.instr.Instr.{Instr}
 use Rattle.sp_isa.specs.declared.instr.Instr.TheVariants.{Mvi, AluImmediate, Lxi, Shld, Lhld, Sta, Lda, Jmp, Jcc, Call, Ccc, Rst, In, Out}
 use Rattle.sp_isa.specs.Code.{valid}
-use Rattle.sp_stmt.specs.declared.mnemonic.ExpressionKind.{ExpressionKind}
-use Rattle.sp_stmt.specs.declared.mnemonic.ExpressionKind.TheVariants as kind
+use Rattle.sp_words.specs.declared.mnemonic.ExpressionKind.{ExpressionKind}
+use Rattle.sp_words.specs.declared.mnemonic.ExpressionKind.TheVariants as kind
 use Rattle.sp_stmt.specs.declared.operand.Operand.{Operand}
 use Rattle.sp_stmt.specs.declared.operand.Operand.TheVariants as operand
 use Rattle.sp_stmt.specs.declared.statement.Code.{Code}

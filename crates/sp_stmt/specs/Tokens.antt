@@ -11,11 +11,11 @@ use Rattle.sp_expr.specs.Reserved.{is_reserved}
 use Rattle.sp_expr.specs.Words.{text_of}
 use Rattle.sp_isa.specs.declared.instr.Arg.{Arg}
 use Rattle.sp_isa.specs.declared.instr.StackPair.{StackPair}
-use Rattle.sp_stmt.specs.declared.mnemonic.Mnemonic.{Mnemonic}
-use Rattle.sp_stmt.specs.declared.mnemonic.Mnemonic.TheVariants as mnemonic
-use Rattle.sp_stmt.specs.declared.mnemonic.Assignment.{Assignment}
-use Rattle.sp_stmt.specs.Mnemonics.{mnemonic_named}
-use Rattle.sp_stmt.specs.Registers.{arg_named, pair_named, stack_pair_named}
+use Rattle.sp_words.specs.declared.mnemonic.Mnemonic.{Mnemonic}
+use Rattle.sp_words.specs.declared.mnemonic.Mnemonic.TheVariants as mnemonic
+use Rattle.sp_words.specs.declared.mnemonic.Assignment.{Assignment}
+use Rattle.sp_words.specs.code.Tables.{mnemonic_named}
+use Rattle.sp_words.specs.code.Tables.{arg_named, pair_named, stack_pair_named}
 
 -- whether a token of this kind and text is this symbol
 abbrev pub is_mark : List ℕ → TokenKind → List ℕ → Bool

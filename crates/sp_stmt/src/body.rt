@@ -7,7 +7,6 @@ ghost use Rattle.sp_stmt.specs.declared.statement.Code.TheVariants as codes;
 
 use crate::data::data_of;
 use crate::expression::operand;
-use crate::mnemonic::{DataKind, ExpressionKind, Load, Mnemonic};
 use crate::operand::Operands;
 use crate::plain::{alone, move_instr, pair_instr, register_instr, stack_instr};
 use crate::statement::Code;
@@ -15,6 +14,7 @@ use crate::tokens::{arg_at, is_comma, pair_at};
 use sp_expr::ParseRefusal;
 use sp_isa::{Instr, valid};
 use sp_lex::Token;
+use sp_words::{DataKind, ExpressionKind, Load, Mnemonic};
 use std::alloc::Global;
 
 /// A code with its operands.

@@ -5,11 +5,11 @@ ghost use Rattle.sp_stmt.specs.code.Answers.{Answers};
 ghost use Rattle.sp_stmt.specs.code.Data.{items_of, items_behind, text_operand, lone_text, byte_item, item_of, data_of, behind, one_operand};
 
 use crate::expression::operand;
-use crate::mnemonic::{DataKind, ExpressionKind};
 use crate::operand::{Characters, Operand, Operands};
 use crate::tokens::{is_comma, text_of};
 use sp_expr::ParseRefusal;
 use sp_lex::{Token, TokenKind};
+use sp_words::{DataKind, ExpressionKind};
 use std::alloc::Global;
 
 /// The operands of a data directive while its items are read.

@@ -4,10 +4,10 @@ ghost use Rattle.sp_stmt.specs.code.Answers.{Answers};
 ghost use Rattle.sp_stmt.specs.Operands.{used_as};
 ghost use Rattle.sp_stmt.specs.code.Expressions.{expression_of, operand_of};
 
-use crate::mnemonic::ExpressionKind;
 use crate::operand::Operand;
 use sp_expr::{Expr, ParseRefusal, parse};
 use sp_lex::Token;
+use sp_words::ExpressionKind;
 use std::alloc::Global;
 
 /// The expression of all these tokens.

@@ -7,19 +7,14 @@ mod body;
 mod data;
 mod expression;
 mod laws;
-mod mnemonic;
 mod operand;
 mod plain;
 mod reading;
 mod refusal;
-mod register;
 mod statement;
 mod tokens;
 
-pub use laws::{
-    a_line_is_one_statement, a_source_has_one_answer, names_are_the_manuals,
-    reserved_words_have_meanings,
-};
+pub use laws::{a_line_is_one_statement, a_source_has_one_answer};
 pub use operand::{Characters, Operand, Operands};
 pub use reading::statements;
 pub use refusal::{StatementKind, StatementRefusal};

@@ -2,11 +2,11 @@ ghost use Rattle.std.specs.Prelude.{◌≡◌};
 ghost use Rattle.sp_expr.specs.Words.{AreIn};
 ghost use Rattle.sp_stmt.specs.code.Bodies.{with_register, with_pair, with_stack_pair, alone, register_instr, pair_instr, stack_instr, moved, move_instr};
 
-use crate::mnemonic::{PairForm, RegisterForm, StackForm};
 use crate::tokens::{arg_at, is_comma, pair_at, stack_pair_at};
 use sp_base::Pair;
 use sp_isa::{Arg, Instr, StackPair};
 use sp_lex::Token;
+use sp_words::{PairForm, RegisterForm, StackForm};
 
 fn with_register(form: RegisterForm, y: Arg) -> Instr
     ensures { result ≡ with_register form y }

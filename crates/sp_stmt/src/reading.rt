@@ -9,7 +9,6 @@ ghost use Rattle.sp_stmt.specs.Source.{AreStatementsOf, IsUnread};
 ghost use Rattle.sp_stmt.specs.Statements.{IsStatement};
 
 use crate::body::{Body, body_of, with_expression};
-use crate::mnemonic::{Assignment, ExpressionKind, Mnemonic};
 use crate::operand::Operands;
 use crate::refusal::{StatementKind, StatementRefusal};
 use crate::statement::{Code, Statement, Statements};
@@ -17,6 +16,7 @@ use crate::tokens::{assignment_at, is_colon, mnemonic_at, own_name_at};
 use sp_base::{Line, Name, Refused};
 use sp_expr::ParseRefusal;
 use sp_lex::{LineKind, Lines, SourceLine, Token};
+use sp_words::{Assignment, ExpressionKind, Mnemonic};
 use std::alloc::Global;
 
 fn statement(line: Line, label: Option<Name>, body: Body) -> Statement

@@ -11,18 +11,18 @@ use Rattle.sp_isa.specs.declared.instr.Instr.{Instr}
 use Rattle.sp_isa.specs.declared.instr.Instr.TheVariants as instr
 use Rattle.sp_isa.specs.Code.{valid}
 use Rattle.sp_stmt.specs.declared.body.Body.{Body}
-use Rattle.sp_stmt.specs.declared.mnemonic.ExpressionKind.{ExpressionKind}
-use Rattle.sp_stmt.specs.declared.mnemonic.ExpressionKind.TheVariants as kind
-use Rattle.sp_stmt.specs.declared.mnemonic.Load.{Load}
-use Rattle.sp_stmt.specs.declared.mnemonic.Load.TheVariants as load
-use Rattle.sp_stmt.specs.declared.mnemonic.Mnemonic.{Mnemonic}
-use Rattle.sp_stmt.specs.declared.mnemonic.Mnemonic.TheVariants as mnemonic
-use Rattle.sp_stmt.specs.declared.mnemonic.PairForm.{PairForm}
-use Rattle.sp_stmt.specs.declared.mnemonic.PairForm.TheVariants.{Dad, Inx, Dcx, Stax, Ldax}
-use Rattle.sp_stmt.specs.declared.mnemonic.RegisterForm.{RegisterForm}
-use Rattle.sp_stmt.specs.declared.mnemonic.RegisterForm.TheVariants.{Inr, Dcr, Alu}
-use Rattle.sp_stmt.specs.declared.mnemonic.StackForm.{StackForm}
-use Rattle.sp_stmt.specs.declared.mnemonic.StackForm.TheVariants.{Push, Pop}
+use Rattle.sp_words.specs.declared.mnemonic.ExpressionKind.{ExpressionKind}
+use Rattle.sp_words.specs.declared.mnemonic.ExpressionKind.TheVariants as kind
+use Rattle.sp_words.specs.declared.mnemonic.Load.{Load}
+use Rattle.sp_words.specs.declared.mnemonic.Load.TheVariants as load
+use Rattle.sp_words.specs.declared.mnemonic.Mnemonic.{Mnemonic}
+use Rattle.sp_words.specs.declared.mnemonic.Mnemonic.TheVariants as mnemonic
+use Rattle.sp_words.specs.declared.mnemonic.PairForm.{PairForm}
+use Rattle.sp_words.specs.declared.mnemonic.PairForm.TheVariants.{Dad, Inx, Dcx, Stax, Ldax}
+use Rattle.sp_words.specs.declared.mnemonic.RegisterForm.{RegisterForm}
+use Rattle.sp_words.specs.declared.mnemonic.RegisterForm.TheVariants.{Inr, Dcr, Alu}
+use Rattle.sp_words.specs.declared.mnemonic.StackForm.{StackForm}
+use Rattle.sp_words.specs.declared.mnemonic.StackForm.TheVariants.{Push, Pop}
 use Rattle.sp_stmt.specs.declared.operand.Operand.{Operand}
 use Rattle.sp_stmt.specs.declared.statement.Code.{Code}
 use Rattle.sp_stmt.specs.declared.statement.Code.TheVariants as code

@@ -7,9 +7,9 @@ use Rattle.sp_lex.specs.Texts.{characters_of}
 use Rattle.sp_expr.specs.declared.refusal.ParseRefusal.{ParseRefusal}
 use Rattle.sp_expr.specs.declared.refusal.ParseRefusal.TheVariants.{Syntax, TooDeep, Memory}
 use Rattle.sp_expr.specs.Words.{text_of}
-use Rattle.sp_stmt.specs.declared.mnemonic.DataKind.{DataKind}
-use Rattle.sp_stmt.specs.declared.mnemonic.DataKind.TheVariants.{Bytes, Words}
-use Rattle.sp_stmt.specs.declared.mnemonic.ExpressionKind.TheVariants as kind
+use Rattle.sp_words.specs.declared.mnemonic.DataKind.{DataKind}
+use Rattle.sp_words.specs.declared.mnemonic.DataKind.TheVariants.{Bytes, Words}
+use Rattle.sp_words.specs.declared.mnemonic.ExpressionKind.TheVariants as kind
 use Rattle.sp_stmt.specs.declared.operand.Operand.{Operand}
 use Rattle.sp_stmt.specs.declared.operand.Operand.TheVariants as operand
 use Rattle.sp_stmt.specs.code.Expressions.{operand_of}

@@ -7,8 +7,8 @@ use Rattle.sp_expr.specs.declared.word.Word.{Word}
 use Rattle.sp_expr.specs.Nesting.{nest, nests, nests_within}
 use Rattle.sp_expr.specs.Sentence.{is_sentence}
 use Rattle.sp_expr.specs.Words.{words_of}
-use Rattle.sp_stmt.specs.declared.mnemonic.ExpressionKind.{ExpressionKind}
-use Rattle.sp_stmt.specs.declared.mnemonic.ExpressionKind.TheVariants as kind
+use Rattle.sp_words.specs.declared.mnemonic.ExpressionKind.{ExpressionKind}
+use Rattle.sp_words.specs.declared.mnemonic.ExpressionKind.TheVariants as kind
 use Rattle.sp_stmt.specs.declared.operand.Operand.{Operand}
 use Rattle.sp_stmt.specs.Operands.{used_as}
 

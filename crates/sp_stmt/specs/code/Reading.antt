@@ -7,11 +7,11 @@ use Rattle.sp_lex.specs.declared.token.Token.{Token}
 use Rattle.sp_expr.specs.declared.refusal.ParseRefusal.{ParseRefusal}
 use Rattle.sp_expr.specs.declared.refusal.ParseRefusal.TheVariants.{Syntax}
 use Rattle.sp_stmt.specs.declared.body.Body.{Body}
-use Rattle.sp_stmt.specs.declared.mnemonic.Assignment.{Assignment}
-use Rattle.sp_stmt.specs.declared.mnemonic.Assignment.TheVariants.{Equ, Set}
-use Rattle.sp_stmt.specs.declared.mnemonic.ExpressionKind.TheVariants as kind
-use Rattle.sp_stmt.specs.declared.mnemonic.Mnemonic.{Mnemonic}
-use Rattle.sp_stmt.specs.declared.mnemonic.Mnemonic.TheVariants as mnemonic
+use Rattle.sp_words.specs.declared.mnemonic.Assignment.{Assignment}
+use Rattle.sp_words.specs.declared.mnemonic.Assignment.TheVariants.{Equ, Set}
+use Rattle.sp_words.specs.declared.mnemonic.ExpressionKind.TheVariants as kind
+use Rattle.sp_words.specs.declared.mnemonic.Mnemonic.{Mnemonic}
+use Rattle.sp_words.specs.declared.mnemonic.Mnemonic.TheVariants as mnemonic
 use Rattle.sp_stmt.specs.declared.statement.Code.{Code}
 use Rattle.sp_stmt.specs.declared.statement.Code.TheVariants as code
 use Rattle.sp_stmt.specs.declared.statement.Statement.{Statement}
