@@ -1,4 +1,4 @@
-//! What holds of whole numbers, of lines of texts and of answers alone, as contracts of functions that do nothing.
+//! What holds of whole numbers, of bytes in an image, of lines of texts and of answers alone, as contracts of functions that do nothing.
 
 ghost use Rattle.std.specs.Prelude.{◌≡◌, ◌≢◌, ℕ, ◌<◌, ℤ, pos, negsuc, ◌+ℤ◌, ◌<ℤ◌, ◌≤ℤ◌, ◌↔◌, Bool, IsTrue};
 ghost use Rattle.sp_base.specs.Integers.{
@@ -14,8 +14,13 @@ ghost use Rattle.sp_base.specs.Integers.{
   all_between,
   some_between,
 };
-ghost use Rattle.std.specs.Prelude.{ℕ, ◌-◌, List, [], ◌∷◌, Ok, Err, Some, slice_get};
+ghost use Rattle.std.specs.Prelude.{ℕ, ◌-◌, List, [], ◌∷◌, ◌++◌, Ok, Err, Some, None, map, nat_eq, slice_get};
+ghost use Rattle.std.specs.FinMap as maps;
+ghost use Rattle.std.specs.List.{IsDistinct};
 ghost use Rattle.std.specs.Str.Lines.{lines as text_lines};
+ghost use Rattle.sp_base.specs.Cells.{cells_at, placed};
+ghost use Rattle.sp_base.specs.Image.{ImageMap};
+ghost use Rattle.sp_base.specs.Limits.{addresses, bytes, low, high, word};
 ghost use Rattle.sp_base.specs.Lines.{Row, rows_of, AreRowsOf, HasLine, lines};
 ghost use Rattle.sp_base.specs.Refused.{Answers, IsComplete, at_line};
 
@@ -85,4 +90,24 @@ pub fn answers_have_meanings()
     ensures whole { (n : ℕ) → IsComplete {K = ℕ} (λ m. m ≡ 7) (λ _ _. ⊥) (Ok n) ↔ (n ≡ 7) }
     ensures exact { (line kind : ℕ) → IsComplete {A = ℕ} (λ _. ⊥) (λ l k. (l ≡ 2) × (k ≡ 5)) (Err (at_line line kind))
         ↔ ((line ≡ 2) × (kind ≡ 5)) }
+{}
+
+/// A number below 65,536 is its two bytes, and each two bytes make one number.
+pub fn words_have_two_bytes()
+    ensures whole { (n : ℕ) → word (high n) (low n) ≡ n }
+    ensures parts { (h l : ℕ) → l < bytes → (high (word h l) ≡ h) × (low (word h l) ≡ l) }
+    ensures within { (n : ℕ) → n < addresses → (high n < bytes) × (low n < bytes) }
+    // 1234H is 12H and 34H.
+    ensures one { (high 4660 ≡ 18) × (low 4660 ≡ 52) }
+{}
+
+/// Bytes are placed among cells exactly where no address then stands twice, and the image has just these bytes then.
+pub fn bytes_are_placed_apart()
+    ensures apart { (cells : List (ℕ × ℕ)) (a : ℕ) (bs : List ℕ) → IsDistinct nat_eq (map (λ c. c.0) (cells ++ cells_at a bs))
+        → placed a bs (maps.from_entries cells) ≡ Some (maps.from_entries (cells ++ cells_at a bs)) }
+    ensures only { (cells : List (ℕ × ℕ)) (a : ℕ) (bs : List ℕ) (image : ImageMap) → IsDistinct nat_eq (map (λ c. c.0) cells)
+        → placed a bs (maps.from_entries cells) ≡ Some image
+        → IsDistinct nat_eq (map (λ c. c.0) (cells ++ cells_at a bs)) × (image ≡ maps.from_entries (cells ++ cells_at a bs)) }
+    // Addresses rise by one.
+    ensures two { cells_at 65534 (8 ∷ 9 ∷ []) ≡ (65534, 8) ∷ (65535, 9) ∷ [] }
 {}

@@ -22,8 +22,9 @@ pub use calls::{Access, CallLog, FileCall, Outcome};
 pub use files::{Files, ReadRefusal, Sink, WriteRefusal};
 pub use image::Image;
 pub use laws::{
-    answers_have_meanings, division_rounds_down, lines_have_numbers, low_bytes_are_remainders,
-    ranges_are_tested, sums_add_up, texts_have_rows,
+    answers_have_meanings, bytes_are_placed_apart, division_rounds_down, lines_have_numbers,
+    low_bytes_are_remainders, ranges_are_tested, sums_add_up, texts_have_rows,
+    words_have_two_bytes,
 };
 pub use line::Line;
 pub use location::{Loc, Reg};
@@ -36,6 +37,3 @@ pub use pair::Pair;
 pub use refused::Refused;
 pub use rows::{Row, first_row};
 pub use seq::Seq;
-
-#[cfg(test)]
-mod tests;

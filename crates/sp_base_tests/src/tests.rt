@@ -1,4 +1,6 @@
-use crate::{Files, Image, Loc, MemFiles, MemSink, Name, ReadRefusal, Reg, Sink, WriteRefusal};
+use sp_base::{
+    Files, Image, Loc, MemFiles, MemSink, Name, ReadRefusal, Reg, Sink, WriteRefusal, first_row,
+};
 use std::test::Fail;
 
 #[test]
@@ -30,6 +32,43 @@ fn bytes_are_placed_up_to_one_that_is_there(rt: HostRuntime) -> Result<(), Fail>
     assert_eq!(rt; image.get(0xFFFD), Some(1));
     assert_eq!(rt; image.get(0xFFFE), Some(8));
     Ok(())
+}
+
+#[test]
+fn bytes_are_shown_by_rising_address(rt: HostRuntime) -> Result<(), Fail> {
+    let mut image = Image::new(rt.alloc());
+    assert_eq!(rt; image.add(0xFFFF, 7), Ok(true));
+    assert_eq!(rt; image.add(3, 1), Ok(true));
+    assert_eq!(rt; image.add(3, 2), Ok(false));
+    let copy = image.copy()?;
+    image.set(3, 9)?;
+    let mut cells = copy.cells();
+    assert_eq!(rt; cells.next().map(|(a, byte)| (*a, *byte)), Some((3, 1)));
+    assert_eq!(rt;
+        cells.next().map(|(a, byte)| (*a, *byte)),
+        Some((0xFFFF, 7))
+    );
+    assert!(rt; cells.next().is_none());
+    Ok(())
+}
+
+/// Texts that aren't empty, with their first line and the size of its row.
+static FIRST_LINES: [(&[u8], &[u8], usize); 6] = [
+    (b"A\r\nB", b"A", 3),
+    (b"A\nB", b"A", 2),
+    (b"A\rB\r", b"A\rB\r", 4),
+    (b"\r\r\n", b"\r", 3),
+    (b"\n", b"", 1),
+    (b"AB", b"AB", 2),
+];
+
+#[test]
+fn a_line_ends_at_a_line_feed(rt: HostRuntime) {
+    for (text, line, size) in &FIRST_LINES {
+        assert!(rt; !text.is_empty());
+        let row = first_row(text);
+        assert_eq!(rt; (row.line(), row.size()), (*line, *size));
+    }
 }
 
 #[test]
