@@ -312,7 +312,8 @@ fn check_code(rt: &impl Abort, alloc: Global, bytes: &[u8], i: &Instr) {
     assert_eq!(rt; (decoded, length as usize), (*i, bytes.len()));
 }
 
-/// Each row is right, and stands where its first byte does among the 64 from `start` on that an instruction has.
+/// Each row is right, and the rows are in the order of their first bytes: those of the 64 from `start` on that begin an
+/// instruction.
 fn check_quarter(rt: &impl Abort, alloc: Global, start: u8, rows: &[Row]) {
     let mut first = start;
     for (bytes, i) in rows {

@@ -13,7 +13,7 @@ type State = [u16; 10];
 /// Where the exerciser has the word of memory that instructions use.
 const MEMORY: u16 = 0x0103;
 
-/// Where the instruction stands, and behind it POP PSW and PUSH PSW.
+/// The address of the instruction; POP PSW and PUSH PSW come after it.
 const CODE: u16 = 0x8000;
 
 const POP_PSW: u16 = CODE + 4;

@@ -62,7 +62,7 @@ static ROWS: [(Instr, &[Loc], &[Loc]); 13] = [
 ];
 
 #[test]
-fn instructions_use_and_set_locations(rt: HostRuntime) -> Result<(), Fail> {
+fn instructions_read_and_write_locations(rt: HostRuntime) -> Result<(), Fail> {
     for (i, used, written) in &ROWS {
         assert!(rt; valid(i));
         assert_eq!(rt;

@@ -35,7 +35,7 @@ fn the_program_counter_wraps(rt: HostRuntime) -> Result<(), Fail> {
 }
 
 #[test]
-fn operands_behind_the_last_address_are_read(rt: HostRuntime) -> Result<(), Fail> {
+fn operands_after_the_last_address_are_read(rt: HostRuntime) -> Result<(), Fail> {
     // MVI A,77H and LXI B,1234H, each at FFFFH
     let mut machine = loaded(rt.alloc(), 0xFFFF, &[0x3E, 0x77])?;
     check_step(&rt, &mut machine, 0x0001, 0);
