@@ -16,6 +16,7 @@ use Rattle.sp_base.specs.Refused.{Answers, IsComplete}
 use Rattle.sp_base.proofs.RefusedLemmas.{complete}
 use Rattle.sp_stmt.specs.code.Answers.{AnswersStatements}
 use Rattle.sp_stmt.specs.code.Reading.{Fault, from_line, statement_of, statements_from}
+use Rattle.sp_stmt.specs.Grammar.{IsLine}
 use Rattle.sp_stmt.specs.Source.{IsStatementOf, Gives, AreStatementsFrom, BreaksLine, IsUnreadFrom}
 use Rattle.sp_stmt.proofs.ExactLaws.{Exact, found, deep, none, exact-ok, exact-deep, exact-none}
 use Rattle.sp_stmt.proofs.GrammarLaws.{statement_exact}
@@ -252,3 +253,11 @@ module _ (source : List ℕ) (lines : List SourceLine) where
       → IsComplete (AreStatementsFrom source 1 lines) (IsUnreadFrom source 1 lines) result
   complete_by result h =
       complete (AreStatementsFrom source 1 lines) (IsUnreadFrom source 1 lines) (one_source source lines) (one_unread source lines) (read_or_unread source lines) result (right_by result h)
+
+-- ---- Single lines
+
+pub is_line : {source : List ℕ} {tokens : List Token} {s : Statement} → statement_of source 1 tokens ≡ Ok s → IsStatementOf source 1 tokens s
+is_line {source = source} {tokens = tokens} {s = s} e = line_read source 1 tokens s e
+
+pub is_no_line : {source : List ℕ} {tokens : List Token} → statement_of source 1 tokens ≡ Err parse.Syntax → (s : Statement) → ¬ IsLine source 1 tokens s
+is_no_line {source = source} {tokens = tokens} e = (exact-none (statement_exact source 1 tokens)).0 e

@@ -1,4 +1,5 @@
 pub mod code
+pub mod Examples
 pub mod Grammar
 pub mod Operands
 pub mod Source

@@ -14,7 +14,10 @@ mod refusal;
 mod statement;
 mod tokens;
 
-pub use laws::{a_line_is_one_statement, a_source_has_one_answer};
+pub use laws::{
+    a_line_is_one_statement, a_source_has_one_answer, directives_by_example,
+    instructions_by_example, labels_by_example, values_by_example,
+};
 pub use operand::{Characters, Operand, Operands};
 pub use reading::statements;
 pub use refusal::{StatementKind, StatementRefusal};
