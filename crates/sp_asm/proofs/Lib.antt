@@ -4,6 +4,7 @@ pub mod DataLaws
 pub mod DeclaredLaws
 pub mod DefinitionLemmas
 pub mod ElementLaws
+pub mod ExampleLemmas
 pub mod FaultLaws
 pub mod ListingLemmas
 pub mod MeaningLemmas

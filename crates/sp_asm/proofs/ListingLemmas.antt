@@ -113,8 +113,7 @@ each_row : (rows : List Row) → All IsStatement (map (λ (p : Place). p.stateme
 each_row [] h = tt
 each_row (r ∷ rows) h =
     let below = map (λ (p : Place). p.statement) (places_of rows) in
-    let first = All-head IsStatement r.place.statement (map (λ (p : Place). p.statement) (places_of rows)) h in
-    (
+    let first = All-head IsStatement r.place.statement (map (λ (p : Place). p.statement) (places_of rows)) h in (
       record { address = refl; bytes = bytes_are r.place.statement.code r.place.statement.operands r.values first.valid },
       each_row rows (All-tail IsStatement r.place.statement (map (λ (p : Place). p.statement) (places_of rows)) h),
     )
@@ -197,17 +196,17 @@ module _ (image : ImageMap) (items : List Item) (holds : HoldsItems image items)
       let d = at.here_data in
       let known = instr_bytes item i at.here_data at.is is in
       let stands : StandAt image at.here_data.address at.here_data.bytes = λ k lt.
-          let byte = byte_at at.here_data.address at.here_data.bytes k lt in
-          let c : ℕ × ℕ = (at.here_data.address + k, slice_index at.here_data.bytes k) in
-          let cells : cells_of holds.each_data ≡ (cells_of at.before ++ byte.front) ++ c ∷ (byte.back ++ cells_of at.after) =
-          ap cells_of at.whole ∙ cells-split at.before at.after at.here_data
-          ∙ ap (λ l. cells_of at.before ++ (l ++ cells_of at.after)) byte.whole
-          ∙ ap (λ l. cells_of at.before ++ l) (append_assoc byte.front (c ∷ byte.back) (cells_of at.after))
-          ∙ sym (append_assoc (cells_of at.before) byte.front (c ∷ (byte.back ++ cells_of at.after))) in
-          ap (λ m. maps.get m (at.here_data.address + k)) holds.whole
-          ∙ maps.get-from_entries nat_cmp_total (cells_of holds.each_data) (at.here_data.address + k)
-          ∙ ap (λ l. find nat_cmp (at.here_data.address + k) l) cells
-          ∙ find_at (cells_of at.before ++ byte.front) c (byte.back ++ cells_of at.after) (subst (λ l. IsDistinct nat_eq (addresses l)) cells holds.apart) in
+      let byte = byte_at at.here_data.address at.here_data.bytes k lt in
+      let c : ℕ × ℕ = (at.here_data.address + k, slice_index at.here_data.bytes k) in
+      let cells : cells_of holds.each_data ≡ (cells_of at.before ++ byte.front) ++ c ∷ (byte.back ++ cells_of at.after) =
+      ap cells_of at.whole ∙ cells-split at.before at.after at.here_data
+      ∙ ap (λ l. cells_of at.before ++ (l ++ cells_of at.after)) byte.whole
+      ∙ ap (λ l. cells_of at.before ++ l) (append_assoc byte.front (c ∷ byte.back) (cells_of at.after))
+      ∙ sym (append_assoc (cells_of at.before) byte.front (c ∷ (byte.back ++ cells_of at.after))) in
+      ap (λ m. maps.get m (at.here_data.address + k)) holds.whole
+      ∙ maps.get-from_entries nat_cmp_total (cells_of holds.each_data) (at.here_data.address + k)
+      ∙ ap (λ l. find nat_cmp (at.here_data.address + k) l) cells
+      ∙ find_at (cells_of at.before ++ byte.front) c (byte.back ++ cells_of at.after) (subst (λ l. IsDistinct nat_eq (addresses l)) cells holds.apart) in
       (known.0, subst (λ a. StandAt image a (code i)) at.is.address (subst (StandAt image at.here_data.address) known.1 stands))
 
   pub codes_apart : (front between back : List Item) (one other : Item) (i j : Instr) → items ≡ front ++ one ∷ (between ++ other ∷ back) → one.kind ≡ kind.Instr i → other.kind ≡ kind.Instr j

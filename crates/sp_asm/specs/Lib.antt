@@ -1,5 +1,6 @@
 pub mod code
 pub mod Assembly
+pub mod Examples
 pub mod Items
 pub mod Listing
 pub mod Meanings
