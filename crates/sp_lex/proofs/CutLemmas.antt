@@ -4,7 +4,7 @@ use Rattle.std.proofs.lemmas.List.{nil_from_length, length-take-le}
 use Rattle.sp_lex.specs.declared.refusal.TextKind.{TextKind}
 use Rattle.sp_lex.specs.declared.token.Token.{Token}
 use Rattle.sp_lex.specs.declared.pieces.Piece.{Piece}
-use Rattle.sp_lex.specs.Pieces.{Cut, token_of, tokens_from}
+use Rattle.sp_lex.specs.Pieces.{token_of, tokens_from}
 use Rattle.sp_lex.specs.code.Pieces.{cut, cuts, piece_at, fault_of, fault_in, first_fault}
 
 pub cuts-taken : (annotation : Bool) (taken : ℕ) (bytes : List ℕ) → cuts annotation taken bytes ≡ cuts annotation 0 (drop taken bytes)

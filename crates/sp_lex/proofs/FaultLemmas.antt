@@ -1,11 +1,10 @@
 -- The first of the faults of a line's pieces.
-use Rattle.std.proofs.Common.{◌≡◌, ℕ, suc, ◌+◌, ◌<◌, ◌≤◌, Bool, true, false, cond, List, [], ◌∷◌, Option, Some, None, refl, sym, ap, subst, ◌∙◌, ◌⊎◌, inl, inr, arith, length}
-use Rattle.std.specs.Prelude.{nat_le, is_some, IsFalse}
+use Rattle.std.proofs.Common.{◌≡◌, ℕ, ◌<◌, Bool, true, false, List, [], ◌∷◌, Option, Some, None, refl, sym, ap, ◌∙◌, ◌⊎◌, inl, inr, arith, length}
+use Rattle.std.specs.Prelude.{nat_le, is_some}
 use Rattle.std.specs.List.{list_all}
 use Rattle.std.proofs.lemmas.Bool.{leb-true, leb-false, lt-leb, cond_both}
 use Rattle.sp_lex.specs.declared.refusal.TextKind.{TextKind}
 use Rattle.sp_lex.specs.declared.refusal.TextKind.TheVariants.{LongLine, BadByte, OpenQuote, BadNumber}
-use Rattle.sp_lex.specs.declared.token.TokenKind.{TokenKind}
 use Rattle.sp_lex.specs.declared.token.TokenKind.TheVariants.{Name, Number, Text, Symbol}
 use Rattle.sp_lex.specs.declared.pieces.PieceKind.{PieceKind}
 use Rattle.sp_lex.specs.declared.pieces.PieceKind.TheVariants as pieces
@@ -107,28 +106,28 @@ module _ (annotation : Bool) (text : List ℕ) where
 
 -- the first of two is first of what either says
 two_first : (P Q : TextKind → Type 0) (a b : Option TextKind) → IsFirst P a → IsFirst Q b → IsFirst (λ k. P k ⊎ Q k) (first_fault a b)
-two_first P Q None None h g = λ k s. elim s [ | inl p ↦ h k p | inr q ↦ g k q ]
-two_first P Q None (Some b) h g = (inr g.0, λ k lower s. elim s [ | inl p ↦ h k p | inr q ↦ g.1 k lower q ])
-two_first P Q (Some a) None h g = (inl h.0, λ k lower s. elim s [ | inl p ↦ h.1 k lower p | inr q ↦ g k q ])
+two_first P Q None None h g = λ k s. elim s [ inl p ↦ h k p | inr q ↦ g k q ]
+two_first P Q None (Some b) h g = (inr g.0, λ k lower s. elim s [ inl p ↦ h k p | inr q ↦ g.1 k lower q ])
+two_first P Q (Some a) None h g = (inl h.0, λ k lower s. elim s [ inl p ↦ h.1 k lower p | inr q ↦ g k q ])
 two_first P Q (Some a) (Some b) h g =
     cond_both (nat_le (rank_of a) (rank_of b)) (Some a) (Some b) (IsFirst (λ k. P k ⊎ Q k))
     (λ t. let le = leb-true (rank_of a) (rank_of b) t in
-    (inl h.0, λ k lower s. elim s [ | inl p ↦ h.1 k lower p | inr q ↦ g.1 k (omega (arith, le, lower)) q ]))
+    (inl h.0, λ k lower s. elim s [ inl p ↦ h.1 k lower p | inr q ↦ g.1 k (omega (arith, le, lower)) q ]))
     (λ f. let lt = leb-false (rank_of a) (rank_of b) f in
-    (inr g.0, λ k lower s. elim s [ | inl p ↦ h.1 k (omega (arith, lt, lower)) p | inr q ↦ g.1 k lower q ]))
+    (inr g.0, λ k lower s. elim s [ inl p ↦ h.1 k (omega (arith, lt, lower)) p | inr q ↦ g.1 k lower q ]))
 
 pieces_first : (annotation : Bool) (P : TextKind → Type 0) (before : Option TextKind) (cs : List Cut) → IsFirst P before → IsFirst (λ k. P k ⊎ SomeBreaks annotation cs k) (fault_in annotation before cs)
-pieces_first annotation P before [] h = first_by P (λ k. P k ⊎ ⊥) before (λ k p. inl p) (λ k s. elim s [ | inl p ↦ p | inr q ↦ absurd q ]) h
+pieces_first annotation P before [] h = first_by P (λ k. P k ⊎ ⊥) before (λ k p. inl p) (λ k s. elim s [ inl p ↦ p | inr q ↦ absurd q ]) h
 pieces_first annotation P before (c ∷ cs) h =
     let Q : TextKind → Type 0 = λ k. P k ⊎ Breaks annotation c.kind c.text k in
     let two = two_first P (Breaks annotation c.kind c.text) before (fault_of annotation c.kind c.text) h (piece_first annotation c.text c.kind) in
     first_by (λ k. Q k ⊎ SomeBreaks annotation cs k) (λ k. P k ⊎ SomeBreaks annotation (c ∷ cs) k) (fault_in annotation before (c ∷ cs))
-    (λ k s. elim s [ | inl q ↦ elim q [ | inl p ↦ inl p | inr b ↦ inr (inl b) ] | inr more ↦ inr (inr more) ])
-    (λ k s. elim s [ | inl p ↦ inl (inl p) | inr more ↦ elim more [ | inl b ↦ inl (inr b) | inr rest ↦ inr rest ] ])
+    (λ k s. elim s [ inl q ↦ elim q [ inl p ↦ inl p | inr b ↦ inr (inl b) ] | inr more ↦ inr (inr more) ])
+    (λ k s. elim s [ inl p ↦ inl (inl p) | inr more ↦ elim more [ inl b ↦ inl (inr b) | inr rest ↦ inr rest ] ])
     (pieces_first annotation Q (first_fault before (fault_of annotation c.kind c.text)) cs two)
 
 pub fault_in-first : (annotation : Bool) (cs : List Cut) → IsFirst (SomeBreaks annotation cs) (fault_in annotation None cs)
 fault_in-first annotation cs =
     first_by (λ k. ⊥ ⊎ SomeBreaks annotation cs k) (SomeBreaks annotation cs) (fault_in annotation None cs)
-    (λ k s. elim s [ | inl p ↦ absurd p | inr more ↦ more ]) (λ k b. inr b)
+    (λ k s. elim s [ inl p ↦ absurd p | inr more ↦ more ]) (λ k b. inr b)
     (pieces_first annotation (λ k. ⊥) None cs (λ k p. p))

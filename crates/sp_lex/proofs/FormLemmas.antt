@@ -1,17 +1,17 @@
 -- Which token bytes begin with: its kind by its first byte, and the longest one.
-use Rattle.std.proofs.Common.{◌≡◌, ◌≢◌, ℕ, zero, suc, ◌+◌, ◌<◌, ◌≤◌, Bool, true, false, cond, eqb, List, [], ◌∷◌, ◌++◌, length, take, drop, Option, Some, None, refl, sym, ap, subst, ◌∙◌, ◌⊎◌, inl, inr, arith, append_assoc, length-append}
-use Rattle.std.specs.Prelude.{◌&&◌, ◌||◌, ◌==◌, IsTrue, nat_eq, nat_le, codes}
+use Rattle.std.proofs.Common.{◌≡◌, ◌≢◌, ℕ, suc, ◌+◌, ◌≤◌, Bool, true, false, cond, List, [], ◌∷◌, ◌++◌, length, take, drop, Option, Some, None, refl, sym, ap, subst, ◌∙◌, ◌⊎◌, inl, inr, arith, length-append}
+use Rattle.std.specs.Prelude.{◌&&◌, ◌||◌, ◌==◌, nat_eq, nat_le, codes}
 use Rattle.std.specs.Option.{option_map}
 use Rattle.std.specs.Cmp.Lexicographic.{pointwise}
 use Rattle.std.specs.List.{prefix_len, list_all, list_any, flat_map, starts_with}
 use Rattle.std.specs.Char.{is_ascii_digit, is_ascii_alphanumeric}
-use Rattle.std.proofs.lemmas.Bool.{eqb-true, eq-eqb, ne_eqb, leb-true}
+use Rattle.std.proofs.lemmas.Bool.{eqb-true, eq-eqb, ne_eqb, leb-true, cond_both}
 use Rattle.std.proofs.lemmas.List.{take-append-drop, length-take-le}
 use Rattle.std.proofs.lemmas.List.Sums.{prefix_len-le-length}
 use Rattle.sp_lex.specs.declared.token.TokenKind.{TokenKind}
 use Rattle.sp_lex.specs.declared.token.TokenKind.TheVariants.{Name, Number, Text, Symbol}
 use Rattle.sp_lex.specs.Bytes.{is_blank, is_name_start, is_name_byte}
-use Rattle.sp_lex.specs.Texts.{written, text_of}
+use Rattle.sp_lex.specs.Texts.{written}
 use Rattle.sp_lex.specs.Tokens.{IsWord, IsNumeral, IsQuoted, marks, is_mark, long_symbols, is_long_symbol, IsSymbol, HasForm, IsLongest, BeginsNoToken}
 use Rattle.sp_lex.specs.code.Pieces.{text_rest, closed_later, symbol_len, starts_with_pair, starts_with_mark}
 use Rattle.sp_lex.proofs.TextLemmas.{rest_other, rest_twice}
@@ -20,11 +20,6 @@ pub both : (a b : Bool) → (a && b) ≡ true → (a ≡ true) × (b ≡ true)
 both true true e = (refl, refl)
 both true false e = absurd cc
 both false b e = absurd cc
-
--- both sides of a choice
-pub choose : {A : Type 0} (P : A → Type 0) (b : Bool) (x y : A) → (b ≡ true → P x) → (b ≡ false → P y) → P (cond b x y)
-choose P true x y then otherwise = then refl
-choose P false x y then otherwise = otherwise refl
 
 either : (a b : Bool) → (a || b) ≡ true → (a ≡ true) ⊎ (b ≡ true)
 either true b e = inl refl
@@ -99,12 +94,12 @@ no_test p byte value is fails holds = let e : true ≡ false = sym holds ∙ ap 
 past_blanks : (p : ℕ → Bool) (byte n : ℕ) → p 32 ≡ false → p 9 ≡ false → p 59 ≡ false → p byte ≡ true
     → cond (is_name_start byte) 2 (cond (is_ascii_digit byte) 3 (cond (byte == 39) 4 5)) ≡ n → class byte ≡ n
 past_blanks p byte n space tab semicolon holds is =
-    choose (λ k. k ≡ n) (is_blank byte) 0 _
+    cond_both (is_blank byte) 0 _ (λ k. k ≡ n)
     (λ blank. elim (either (byte == 32) (byte == 9) blank) [
       | inl a ↦ absurd (no_test p byte 32 (eqb-true byte 32 a) space holds)
       | inr b ↦ absurd (no_test p byte 9 (eqb-true byte 9 b) tab holds)
     ])
-    (λ _. choose (λ k. k ≡ n) (byte == 59) 1 _ (λ e. absurd (no_test p byte 59 (eqb-true byte 59 e) semicolon holds)) (λ _. is))
+    (λ _. cond_both (byte == 59) 1 _ (λ k. k ≡ n) (λ e. absurd (no_test p byte 59 (eqb-true byte 59 e) semicolon holds)) (λ _. is))
 
 pub word_class : (byte : ℕ) → is_name_start byte ≡ true → class byte ≡ 2
 word_class byte start = past_blanks is_name_start byte 2 refl refl refl start (rw start refl)
@@ -156,7 +151,7 @@ longest_of_kind annotation kind text rest form most = record {
 pub list_all-prefix : (p : ℕ → Bool) (bytes : List ℕ) → list_all p (take (prefix_len p bytes) bytes) ≡ true
 list_all-prefix p [] = refl
 list_all-prefix p (byte ∷ bytes) =
-    choose (λ n. list_all p (take n (byte ∷ bytes)) ≡ true) (p byte) (1 + prefix_len p bytes) 0
+    cond_both (p byte) (1 + prefix_len p bytes) 0 (λ n. list_all p (take n (byte ∷ bytes)) ≡ true)
     (λ e. let n : 1 + prefix_len p bytes ≡ suc (prefix_len p bytes) = omega arith in rw (n, e) (list_all-prefix p bytes))
     (λ e. refl)
 
@@ -202,7 +197,6 @@ numeral_longest annotation byte bytes digit =
 no_quote : (byte : ℕ) → (byte == 39) ≡ false → byte ≢ 39
 no_quote byte q e = let yes = eq-eqb byte 39 e in cc
 
-
 -- the first n bytes are characters as they are written, and a quote
 abbrev Closes : ℕ → List ℕ → Type 0
 Closes n bytes = (characters : List ℕ) × (take n bytes ≡ flat_map written characters ++ 39 ∷ []) × (n ≤ length bytes)
@@ -237,11 +231,11 @@ text_closes : (bytes : List ℕ) (n : ℕ) → text_rest bytes ≡ Some n → Cl
 unfolding text_rest
 text_closes [] n = λ e. absurd (none_some n e)
 text_closes (byte ∷ []) n =
-    choose (λ len. len ≡ Some n → Closes n (byte ∷ [])) (byte == 39) (Some 1) None
+    cond_both (byte == 39) (Some 1) None (λ len. len ≡ Some n → Closes n (byte ∷ []))
     (λ q e. close_one n byte [] (eqb-true byte 39 q) e) (λ _ e. absurd (none_some n e))
 text_closes (byte ∷ next ∷ bytes) n =
-    choose (λ len. len ≡ Some n → Closes n (byte ∷ next ∷ bytes)) (byte == 39) _ _
-    (λ q. choose (λ len. len ≡ Some n → Closes n (byte ∷ next ∷ bytes)) (next == 39) _ _
+    cond_both (byte == 39) _ _ (λ len. len ≡ Some n → Closes n (byte ∷ next ∷ bytes))
+    (λ q. cond_both (next == 39) _ _ (λ len. len ≡ Some n → Closes n (byte ∷ next ∷ bytes))
     (λ r e. close_later n byte next bytes (text_rest bytes) (eqb-true byte 39 q) (eqb-true next 39 r) (text_closes bytes) e)
     (λ _ e. close_one n byte (next ∷ bytes) (eqb-true byte 39 q) e))
     (λ q e. close_more n byte (next ∷ bytes) (text_rest (next ∷ bytes)) (no_quote byte q) (text_closes (next ∷ bytes)) e)
@@ -254,7 +248,7 @@ cover_quote : (rest : List ℕ) → Covers 1 (39 ∷ rest)
 unfolding text_rest
 cover_quote [] = (1, refl, omega arith)
 cover_quote (next ∷ rest) =
-    choose (λ len. (n : ℕ) × (len ≡ Some n) × (1 ≤ n)) (next == 39) (closed_later (text_rest rest)) (Some 1)
+    cond_both (next == 39) (closed_later (text_rest rest)) (Some 1) (λ len. (n : ℕ) × (len ≡ Some n) × (1 ≤ n))
     (λ _. later (text_rest rest)) (λ _. (1, refl, omega arith))
   where
     later : (len : Option ℕ) → (n : ℕ) × (closed_later len ≡ Some n) × (1 ≤ n)
@@ -271,12 +265,13 @@ text_covers : (characters after : List ℕ) → Covers (length (flat_map written
 text_covers [] after = cover_quote after
 text_covers (c ∷ characters) after =
     let tail = flat_map written characters in
-    choose (λ front. Covers (length (front ++ tail) + 1) (((front ++ tail) ++ 39 ∷ []) ++ after)) (c == 39) (39 ∷ 39 ∷ []) (c ∷ [])
+    cond_both (c == 39) (39 ∷ 39 ∷ []) (c ∷ []) (λ front. Covers (length (front ++ tail) + 1) (((front ++ tail) ++ 39 ∷ []) ++ after))
     (λ _. subst (λ n. Covers n (39 ∷ 39 ∷ ((tail ++ 39 ∷ []) ++ after))) (two (length tail)) (cover_twice (length tail + 1) _ (text_covers characters after)))
     (λ q. subst (λ n. Covers n (c ∷ ((tail ++ 39 ∷ []) ++ after))) (one (length tail)) (cover_other (length tail + 1) c _ (no_quote c q) (text_covers characters after)))
   where
     two : (n : ℕ) → n + 1 + 2 ≡ suc (suc n) + 1
     two n = omega arith
+
     one : (n : ℕ) → n + 1 + 1 ≡ suc n + 1
     one n = omega arith
 
@@ -285,11 +280,11 @@ text_longest annotation bytes n is =
     let h = text_closes bytes n is in
     longest_of_kind annotation Text (39 ∷ take n bytes) (drop n bytes) (h.0, ap (λ rest. 39 ∷ rest) h.1)
     (λ other after e g.
-      let tail = flat_map written g.0 in
-      let inside : (tail ++ 39 ∷ []) ++ after ≡ bytes = ap (drop 1) (ap (λ t. t ++ after) (sym g.1) ∙ e) ∙ take-append-drop n bytes in
-      let found : Covers (length tail + 1) bytes = subst (Covers (length tail + 1)) inside (text_covers g.0 after) in
-      let m : found.0 ≡ n = some_is found.0 n (sym found.1 ∙ is) in
-      omega (arith, found.2, ap length g.1, length-append tail (39 ∷ []), length-take-le n bytes h.2))
+    let tail = flat_map written g.0 in
+    let inside : (tail ++ 39 ∷ []) ++ after ≡ bytes = ap (drop 1) (ap (λ t. t ++ after) (sym g.1) ∙ e) ∙ take-append-drop n bytes in
+    let found : Covers (length tail + 1) bytes = subst (Covers (length tail + 1)) inside (text_covers g.0 after) in
+    let m : found.0 ≡ n = some_is found.0 n (sym found.1 ∙ is) in
+    omega (arith, found.2, ap length g.1, length-append tail (39 ∷ []), length-take-le n bytes h.2))
 
 pub no_text : (annotation : Bool) (bytes : List ℕ) → text_rest bytes ≡ None → BeginsNoToken annotation (39 ∷ bytes)
 no_text annotation bytes none kind [] rest e h = absurd (form_some annotation kind h)
@@ -339,13 +334,13 @@ mark_symbolic annotation (byte ∷ bytes) e = (inl (byte, e, refl), refl)
 symbol_from : (annotation : Bool) (bytes : List ℕ) (len : ℕ) → symbol_len annotation bytes ≡ suc len → Symbolic annotation (suc len) bytes
 unfolding symbol_len
 symbol_from annotation bytes len =
-    choose (λ n. n ≡ suc len → Symbolic annotation (suc len) bytes) (annotation && starts_with nat_eq bytes (codes "<->")) 3 _
+    cond_both (annotation && starts_with nat_eq bytes (codes "<->")) 3 _ (λ n. n ≡ suc len → Symbolic annotation (suc len) bytes)
     (λ t is. let h = both annotation (starts_with nat_eq bytes (codes "<->")) t in
     subst (λ k. Symbolic annotation k bytes) is (subst (λ a. Symbolic a 3 bytes) (sym h.0) (three_symbolic bytes h.1)))
-    (λ _. choose (λ n. n ≡ suc len → Symbolic annotation (suc len) bytes) (annotation && starts_with_pair bytes) 2 _
+    (λ _. cond_both (annotation && starts_with_pair bytes) 2 _ (λ n. n ≡ suc len → Symbolic annotation (suc len) bytes)
     (λ t is. let h = both annotation (starts_with_pair bytes) t in
     subst (λ k. Symbolic annotation k bytes) is (subst (λ a. Symbolic a 2 bytes) (sym h.0) (pair_symbolic bytes h.1)))
-    (λ _. choose (λ n. n ≡ suc len → Symbolic annotation (suc len) bytes) (starts_with_mark annotation bytes) 1 0
+    (λ _. cond_both (starts_with_mark annotation bytes) 1 0 (λ n. n ≡ suc len → Symbolic annotation (suc len) bytes)
     (λ t is. subst (λ k. Symbolic annotation k bytes) is (mark_symbolic annotation bytes t))
     (λ _ is. absurd (omega arith))))
 
@@ -376,9 +371,9 @@ symbol_longest annotation bytes len is =
     let h = symbol_from annotation bytes len is in
     longest_of_kind annotation Symbol (take (suc len) bytes) (drop (suc len) bytes) h.0
     (λ other after e g.
-      let whole : other ++ after ≡ bytes = e ∙ take-append-drop (suc len) bytes in
-      let fits : length other ≤ symbol_len annotation bytes = subst (λ bs. length other ≤ symbol_len annotation bs) whole (symbol_covers annotation other after g) in
-      omega (arith, fits, is, h.1))
+    let whole : other ++ after ≡ bytes = e ∙ take-append-drop (suc len) bytes in
+    let fits : length other ≤ symbol_len annotation bytes = subst (λ bs. length other ≤ symbol_len annotation bs) whole (symbol_covers annotation other after g) in
+    omega (arith, fits, is, h.1))
 
 pub no_symbol : (annotation : Bool) (byte : ℕ) (bytes : List ℕ) → class byte ≡ 5 → symbol_len annotation (byte ∷ bytes) ≡ 0 → BeginsNoToken annotation (byte ∷ bytes)
 no_symbol annotation byte bytes other none kind [] rest e h = absurd (form_some annotation kind h)

@@ -1,10 +1,10 @@
 -- One line: what the code reads it as is what it is.
-use Rattle.std.proofs.Common.{◌≡◌, ◌≢◌, ℕ, zero, suc, ◌+◌, ◌-◌, ◌<◌, ◌≤◌, Bool, true, false, cond, ltb, List, [], ◌∷◌, ◌++◌, length, map, take, drop, Option, Some, None, Result, Ok, Err, refl, sym, ap, subst, ◌∙◌, ◌⊎◌, inl, inr, arith, append_assoc, length-append}
-use Rattle.std.specs.Prelude.{◌&&◌, ◌||◌, ◌==◌, IsTrue, nat_eq, codes}
+use Rattle.std.proofs.Common.{◌≡◌, ℕ, suc, ◌+◌, ◌-◌, ◌≤◌, Bool, true, false, ltb, List, [], ◌∷◌, ◌++◌, length, take, drop, Option, Some, None, Result, Ok, Err, refl, sym, ap, subst, ◌∙◌, inl, inr, arith, append_assoc, length-append}
+use Rattle.std.specs.Prelude.{◌||◌, nat_eq, codes}
 use Rattle.std.specs.Cmp.Lexicographic.{pointwise}
 use Rattle.std.specs.List.{prefix_len, list_all, starts_with}
 use Rattle.std.specs.Char.{to_ascii_uppercase, is_ascii_digit}
-use Rattle.std.proofs.lemmas.Bool.{eqb-true, ltb-true, ltb-false, cond_both}
+use Rattle.std.proofs.lemmas.Bool.{ltb-true, ltb-false, cond_both}
 use Rattle.std.proofs.lemmas.List.{take-append-drop, length-take-le, append_cancel_left}
 use Rattle.std.proofs.lemmas.List.Sums.{prefix_len-le-length}
 use Rattle.sp_lex.specs.declared.refusal.TextKind.{TextKind}
@@ -18,9 +18,9 @@ use Rattle.sp_lex.specs.declared.pieces.PieceKind.{PieceKind}
 use Rattle.sp_lex.specs.declared.pieces.PieceKind.TheVariants as pieces
 use Rattle.sp_lex.specs.Bytes.{is_blank, is_name_start, is_name_byte}
 use Rattle.sp_lex.specs.Names.{folded}
-use Rattle.sp_lex.specs.Tokens.{IsWord, IsLongest}
+use Rattle.sp_lex.specs.Tokens.{IsLongest}
 use Rattle.sp_lex.specs.Pieces.{Cut, AreCut, tokens_from, Breaks, SomeBreaks}
-use Rattle.sp_lex.specs.Reading.{IsMarker, IsAnnotation, IsDivided, ArePiecesOf, HasBrokenPiece, HasFault, IsFaultOf, IsSound, IsEndLine, is_annotation, HasKind, IsLine}
+use Rattle.sp_lex.specs.Reading.{IsAnnotation, IsDivided, ArePiecesOf, HasBrokenPiece, HasFault, IsFaultOf, IsSound, IsEndLine, is_annotation, HasKind, IsLine}
 use Rattle.sp_lex.specs.code.Pieces.{cuts, fault_in}
 use Rattle.sp_lex.specs.code.Lines.{finished, kind_by, annotation_of, statement_of, after_blanks, line_at, is_end_line}
 use Rattle.sp_lex.proofs.FormLemmas.{both, same_texts, head_of, class, word_class, list_all-prefix, word_longest}
@@ -177,6 +177,7 @@ line_read at bytes =
         let are = annotation_pieces bytes mark in
         let len : at + skip + 2 ≡ at + length front = omega (arith, length-append (take skip bytes) (codes ";#"), length-take-le skip bytes (prefix_len-le-length is_blank bytes)) in
         finished_read at bytes front true cs Annotation (tokens_from (at + skip + 2) cs) (fault_in true None cs) (fault_first bytes front true cs short are) are refl (ap (λ n. tokens_from n cs) len) tt
+
     plain_line : length bytes ≤ 4096 → starts_with nat_eq (after_blanks bytes) (codes ";#") ≡ false → IsRead at bytes (statement_of at (cuts false 0 bytes))
     plain_line short mark =
         let cs = cuts false 0 bytes in
@@ -244,6 +245,7 @@ first_word (byte ∷ after) =
         let s : suc n ≡ 1 + n = omega arith in
         subst (λ k. folded (take k (byte ∷ after)) ≡ codes "END" → IsLongest false Name (take k (byte ∷ after)) (drop k (byte ∷ after))) s
         (λ e. subst (λ k. IsLongest false Name (byte ∷ take k after) (drop k after)) (sym is) (word_longest false byte after (letter_e byte (ap head_of e))))
+
 pub end_line : (bytes : List ℕ) → is_end_line bytes ≡ true → IsEndLine bytes
 end_line bytes e =
     let skip = prefix_len is_blank bytes in

@@ -1,9 +1,9 @@
 -- The pieces of a line: those that the code finds are its pieces, and a line has no others.
-use Rattle.std.proofs.Common.{◌≡◌, ◌≢◌, ℕ, zero, suc, ◌+◌, ◌<◌, ◌≤◌, Bool, true, false, cond, List, [], ◌∷◌, ◌++◌, length, take, drop, Option, Some, None, refl, sym, ap, subst, ◌∙◌, ◌⊎◌, inl, inr, arith, length-drop, length-append}
-use Rattle.std.specs.Prelude.{◌||◌, ◌==◌, IsTrue, IsFalse}
+use Rattle.std.proofs.Common.{◌≡◌, ℕ, zero, suc, ◌+◌, ◌<◌, ◌≤◌, Bool, true, false, cond, List, [], ◌∷◌, ◌++◌, length, take, drop, Option, Some, None, refl, sym, ap, subst, ◌∙◌, arith, length-drop, length-append}
+use Rattle.std.specs.Prelude.{◌||◌, ◌==◌, IsFalse}
 use Rattle.std.specs.List.{prefix_len}
 use Rattle.std.specs.Char.{is_ascii_digit, is_ascii_alphanumeric}
-use Rattle.std.proofs.lemmas.Bool.{eqb-true}
+use Rattle.std.proofs.lemmas.Bool.{eqb-true, cond_both}
 use Rattle.std.proofs.lemmas.List.{take-append-drop, take_all, drop_all, append-nil, append_cancel_left, length-take}
 use Rattle.sp_lex.specs.declared.token.TokenKind.{TokenKind}
 use Rattle.sp_lex.specs.declared.token.TokenKind.TheVariants.{Name, Number, Text, Symbol}
@@ -11,11 +11,11 @@ use Rattle.sp_lex.specs.declared.pieces.PieceKind.{PieceKind}
 use Rattle.sp_lex.specs.declared.pieces.PieceKind.TheVariants as pieces
 use Rattle.sp_lex.specs.declared.pieces.Piece.{Piece}
 use Rattle.sp_lex.specs.Bytes.{is_blank, is_name_start, is_name_byte}
-use Rattle.sp_lex.specs.Tokens.{HasForm, IsLongest, BeginsNoToken}
+use Rattle.sp_lex.specs.Tokens.{IsLongest, BeginsNoToken}
 use Rattle.sp_lex.specs.Pieces.{Cut, IsPiece, AreCut}
-use Rattle.sp_lex.specs.code.Pieces.{piece, piece_at, text_piece, symbol_piece, text_rest, symbol_len, cut, cuts}
+use Rattle.sp_lex.specs.code.Pieces.{piece, piece_at, text_piece, symbol_piece, text_rest, symbol_len, cuts}
 use Rattle.sp_lex.proofs.CutLemmas.{cuts-first}
-use Rattle.sp_lex.proofs.FormLemmas.{choose, class, class_of, head_of, form_class, form_some, same_kind, word_longest, numeral_longest, text_longest, no_text, symbol_longest, no_symbol}
+use Rattle.sp_lex.proofs.FormLemmas.{class, class_of, head_of, form_class, form_some, same_kind, word_longest, numeral_longest, text_longest, no_text, symbol_longest, no_symbol}
 
 -- ---- the pieces that the code finds
 
@@ -50,13 +50,13 @@ begins_symbol annotation byte bytes zero other plain is = (byte, refl, plain, no
 pub piece_at-begins : (annotation : Bool) (byte : ℕ) (bytes : List ℕ) → Begins annotation (byte ∷ bytes) (piece_at annotation (byte ∷ bytes))
 unfolding piece_at
 piece_at-begins annotation byte bytes =
-    choose (Begins annotation (byte ∷ bytes)) (is_blank byte) _ _ (λ blank. (byte, refl, blank))
-    (λ blank. choose (Begins annotation (byte ∷ bytes)) (byte == 59) _ _ (λ e. begins_comment annotation byte bytes (eqb-true byte 59 e))
-    (λ comment. choose (Begins annotation (byte ∷ bytes)) (is_name_start byte) _ _
+    cond_both (is_blank byte) _ _ (Begins annotation (byte ∷ bytes)) (λ blank. (byte, refl, blank))
+    (λ blank. cond_both (byte == 59) _ _ (Begins annotation (byte ∷ bytes)) (λ e. begins_comment annotation byte bytes (eqb-true byte 59 e))
+    (λ comment. cond_both (is_name_start byte) _ _ (Begins annotation (byte ∷ bytes))
     (λ start. begins_after annotation (pieces.Token Name) (prefix_len is_name_byte bytes) byte bytes (word_longest annotation byte bytes start))
-    (λ start. choose (Begins annotation (byte ∷ bytes)) (is_ascii_digit byte) _ _
+    (λ start. cond_both (is_ascii_digit byte) _ _ (Begins annotation (byte ∷ bytes))
     (λ digit. begins_after annotation (pieces.Token Number) (prefix_len is_ascii_alphanumeric bytes) byte bytes (numeral_longest annotation byte bytes digit))
-    (λ digit. choose (Begins annotation (byte ∷ bytes)) (byte == 39) _ _ (λ e. begins_text annotation byte bytes (text_rest bytes) (eqb-true byte 39 e) refl)
+    (λ digit. cond_both (byte == 39) _ _ (Begins annotation (byte ∷ bytes)) (λ e. begins_text annotation byte bytes (text_rest bytes) (eqb-true byte 39 e) refl)
     (λ quote. begins_symbol annotation byte bytes (symbol_len annotation (byte ∷ bytes)) (rw (blank, comment, start, digit, quote) refl) (rw (blank, comment, quote) refl) refl)))))
 
 pub piece_some : (annotation : Bool) (kind : PieceKind) (text rest : List ℕ) → IsPiece annotation kind text rest → 0 < length text
@@ -99,8 +99,8 @@ part_of pieces.Stray = 2
 
 part_by_class : (byte n : ℕ) → 2 ≤ n → class byte ≡ n → part byte ≡ 2
 part_by_class byte n le is =
-    choose (λ k. k ≡ 2) (is_blank byte) 0 _ (λ e. let c : class byte ≡ 0 = rw e refl in absurd (omega arith))
-    (λ e. choose (λ k. k ≡ 2) (byte == 59) 1 2 (λ g. let c : class byte ≡ 1 = rw (e, g) refl in absurd (omega arith)) (λ _. refl))
+    cond_both (is_blank byte) 0 _ (λ k. k ≡ 2) (λ e. let c : class byte ≡ 0 = rw e refl in absurd (omega arith))
+    (λ e. cond_both (byte == 59) 1 2 (λ k. k ≡ 2) (λ g. let c : class byte ≡ 1 = rw (e, g) refl in absurd (omega arith)) (λ _. refl))
 
 class_large : (kind : TokenKind) → 2 ≤ class_of kind
 class_large Name = omega arith
@@ -110,8 +110,8 @@ class_large Symbol = omega arith
 
 stray_part : (byte : ℕ) → IsFalse (is_blank byte || (byte == 59 || byte == 39)) → part byte ≡ 2
 stray_part byte plain =
-    choose (λ k. k ≡ 2) (is_blank byte) 0 _ (λ e. absurd (let f : true ≡ false = ap (λ b. b || (byte == 59 || byte == 39)) (sym e) ∙ plain in cc))
-    (λ e. choose (λ k. k ≡ 2) (byte == 59) 1 2 (λ g. absurd (let f : true ≡ false = ap (λ b. false || (b || byte == 39)) (sym g) ∙ ap (λ b. b || (byte == 59 || byte == 39)) (sym e) ∙ plain in cc)) (λ _. refl))
+    cond_both (is_blank byte) 0 _ (λ k. k ≡ 2) (λ e. absurd (let f : true ≡ false = ap (λ b. b || (byte == 59 || byte == 39)) (sym e) ∙ plain in cc))
+    (λ e. cond_both (byte == 59) 1 2 (λ k. k ≡ 2) (λ g. absurd (let f : true ≡ false = ap (λ b. false || (b || byte == 39)) (sym g) ∙ ap (λ b. b || (byte == 59 || byte == 39)) (sym e) ∙ plain in cc)) (λ _. refl))
 
 piece_part : (annotation : Bool) (kind : PieceKind) (text rest : List ℕ) → IsPiece annotation kind text rest → part (head_of text) ≡ part_of kind
 piece_part annotation pieces.Blank text rest h = ap (λ t. part (head_of t)) h.1 ∙ (rw h.2 refl)

@@ -1,8 +1,7 @@
 -- A source: its lines or its lowest fault, and never both.
-use Rattle.std.proofs.Common.{◌≡◌, ℕ, zero, suc, ◌+◌, ◌<◌, ◌≤◌, Bool, true, false, cond, List, [], ◌∷◌, ◌++◌, length, take, drop, Option, Some, None, Result, Ok, Err, refl, sym, ap, subst, ◌∙◌, ◌⊎◌, inl, inr, arith}
+use Rattle.std.proofs.Common.{◌≡◌, ℕ, suc, ◌+◌, ◌≤◌, Bool, true, false, List, [], ◌∷◌, length, Result, Ok, Err, refl, sym, ap, subst, ◌∙◌, ◌⊎◌, inl, inr, arith}
 use Rattle.std.specs.Prelude.{◌==◌, IsErrAnd}
 use Rattle.std.proofs.lemmas.Bool.{cond_both}
-use Rattle.sp_base.specs.declared.line.Line.{Line}
 use Rattle.sp_base.specs.declared.refused.Refused.{Refused}
 use Rattle.sp_base.specs.declared.refused.Refused.TheVariants as refused
 use Rattle.sp_base.specs.Lines.{Row, row, rows_of, in_front, line_of, size_of}

@@ -1,5 +1,5 @@
 -- The tokens of a source's lines are its slices.
-use Rattle.std.proofs.Common.{◌≡◌, ℕ, zero, suc, ◌+◌, ◌-◌, ◌<◌, ◌≤◌, Bool, true, false, cond, eqb, List, [], ◌∷◌, ◌++◌, length, get_or, take, drop, Option, Some, None, refl, sym, ap, subst, ◌∙◌, ◌⊎◌, inl, inr, arith, append_assoc, length-append}
+use Rattle.std.proofs.Common.{◌≡◌, ℕ, zero, suc, ◌+◌, ◌-◌, ◌<◌, ◌≤◌, Bool, true, false, eqb, List, [], ◌∷◌, ◌++◌, length, get_or, take, drop, Option, Some, None, refl, sym, ap, subst, ◌∙◌, inl, inr, arith, append_assoc, length-append}
 use Rattle.std.specs.Prelude.{slice_get, IsSome}
 use Rattle.std.specs.List.{list_all, slice_range, AllByRecursion}
 use Rattle.std.proofs.lemmas.Bool.{cond_both, cases_lt}
@@ -28,7 +28,7 @@ use Rattle.sp_lex.proofs.LineLemmas.{sound_pieces}
 -- ---- a token that breaks no rule
 
 short_by : (n limit : ℕ) → ¬ (limit < n) → n ≤ limit
-short_by n limit h = elim (cases_lt limit n) [ | inl lt ↦ absurd (h lt) | inr le ↦ le ]
+short_by n limit h = elim (cases_lt limit n) [ inl lt ↦ absurd (h lt) | inr le ↦ le ]
 
 some_by : (o : Option ℕ) → ¬ (o ≡ None) → IsSome o
 some_by None h = absurd (h refl)
@@ -85,8 +85,8 @@ cut_tokens annotation at source front bytes back (c ∷ cs) whole len h sound =
     let some : 0 < length c.text = piece_some annotation c.kind c.text rest h.2 in
     with_token (IsTokenOf source annotation) c.kind at (at + length c.text) (tokens_from (at + length c.text) cs)
     (λ k is. token_at annotation at source front c.text (rest ++ back) k parts len some
-      (unbroken annotation k c.text (subst (λ (p : PieceKind). IsPiece annotation p c.text rest) is h.2).form
-      (λ j broken. sound j (inl (subst (λ (p : PieceKind). Breaks annotation p c.text j) (sym is) broken)))))
+    (unbroken annotation k c.text (subst (λ (p : PieceKind). IsPiece annotation p c.text rest) is h.2).form
+    (λ j broken. sound j (inl (subst (λ (p : PieceKind). Breaks annotation p c.text j) (sym is) broken)))))
     (cut_tokens annotation (at + length c.text) source (front ++ c.text) rest back cs next (omega (arith, len, length-append front c.text)) h.3 (λ k broken. sound k (inr broken)))
 
 divided_whole : (annotation : Bool) (line front body : List ℕ) → IsDivided annotation line front body → line ≡ front ++ body

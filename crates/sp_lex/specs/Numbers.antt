@@ -15,7 +15,7 @@ suffix_base last =
     else (if to_ascii_uppercase last == 66 then Some 2
     else None)))
 
--- the value of these digits behind digits of this value, if all are digits of the base
+-- the value of these digits after digits of this value, if all are digits of the base
 abbrev pub value_from : ℕ → ℕ → List ℕ → Option ℕ
 value_from base value [] = Some value
 value_from base value (digit ∷ digits) =

@@ -3,8 +3,8 @@
 use Rattle.std.specs.Prelude.{◌≡◌, ◌⊎◌, ℕ, ◌+◌, ◌<◌, Bool, ◌||◌, ◌==◌, IsTrue, IsFalse, List, [], ◌∷◌, ◌++◌, length, None, ⊤}
 use Rattle.std.specs.List.{list_all}
 use Rattle.sp_lex.specs.declared.refusal.TextKind.{TextKind}
-use Rattle.sp_lex.specs.declared.refusal.TextKind.TheVariants.{LongLine, BadByte, OpenQuote, BadNumber}
-use Rattle.sp_lex.specs.declared.token.TokenKind.TheVariants.{Name, Number, Text, Symbol}
+use Rattle.sp_lex.specs.declared.refusal.TextKind.TheVariants.{BadByte, OpenQuote, BadNumber}
+use Rattle.sp_lex.specs.declared.token.TokenKind.TheVariants.{Name, Number, Text}
 use Rattle.sp_lex.specs.declared.token.Token.{Token}
 use Rattle.sp_lex.specs.declared.pieces.PieceKind.{PieceKind}
 use Rattle.sp_lex.specs.declared.pieces.PieceKind.TheVariants as piece

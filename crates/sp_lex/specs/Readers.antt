@@ -1,7 +1,7 @@
 -- What single tokens of a source are, and lists of tokens that commas divide.
-use Rattle.std.specs.Prelude.{ℕ, ◌≤◌, Bool, false, nat_eq, nat_le, if◌then◌else◌, List, [], ◌∷◌, length, codes, Option, Some, None, All}
+use Rattle.std.specs.Prelude.{◌≡◌, ℕ, ◌≤◌, Bool, false, nat_eq, nat_le, IsTrue, if◌then◌else◌, List, [], ◌∷◌, ◌++◌, length, codes, Option, Some, None, All}
 use Rattle.std.specs.Cmp.Lexicographic.{pointwise}
-use Rattle.std.specs.List.{slice_range}
+use Rattle.std.specs.List.{slice_range, AllByRecursion}
 use Rattle.sp_lex.specs.declared.token.Token.{Token}
 use Rattle.sp_lex.specs.declared.token.TokenKind.{TokenKind}
 use Rattle.sp_lex.specs.declared.token.TokenKind.TheVariants.{Name, Number, Text, Symbol}
@@ -64,3 +64,18 @@ items_of source (token ∷ tokens) =
 abbrev pub items_after : List ℕ → List Token → List (List Token)
 items_after source [] = []
 items_after source (comma ∷ rest) = items_of source rest
+
+abbrev pub IsComma : List ℕ → Token → Type 0
+IsComma source token = IsTrue (is_symbol (codes ",") source token)
+
+-- no token of an item is a comma
+abbrev pub HasNoComma : List ℕ → List Token → Type 0
+HasNoComma source item = AllByRecursion (λ token. ¬ IsComma source token) item
+
+-- commas divide tokens into these items: one stands after each item but the last, and none in an item
+abbrev pub AreItems : List ℕ → List Token → List (List Token) → Type 0
+AreItems source tokens [] = ⊥
+AreItems source tokens (item ∷ []) = (tokens ≡ item) × HasNoComma source item
+AreItems source tokens (item ∷ next ∷ items) =
+    (comma : Token) × (rest : List Token) × (tokens ≡ item ++ comma ∷ rest) × IsComma source comma
+    × HasNoComma source item × AreItems source rest (next ∷ items)

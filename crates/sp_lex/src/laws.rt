@@ -2,9 +2,11 @@ ghost use Rattle.std.specs.Prelude.{◌≡◌, ◌⊎◌, ◌≤◌, ◌<◌, �
 ghost use Rattle.sp_lex.specs.declared.refusal.TextKind.{TextKind};
 ghost use Rattle.sp_lex.specs.declared.refusal.TextKind.TheVariants.{LongLine, BadByte, OpenQuote, BadNumber};
 ghost use Rattle.sp_lex.specs.declared.token.TokenKind.TheVariants.{Name, Number, Text, Symbol};
+ghost use Rattle.sp_lex.specs.declared.token.Token.{Token};
 ghost use Rattle.sp_lex.specs.declared.token.SourceLine.{SourceLine};
 ghost use Rattle.sp_lex.specs.Examples.{token, empty, statement, annotation};
 ghost use Rattle.sp_lex.specs.Numbers.{number_of};
+ghost use Rattle.sp_lex.specs.Readers.{items_of, AreItems};
 ghost use Rattle.sp_lex.specs.Reading.{IsSound, IsFaultOf, AreLines, IsFaultAt, HaveTokensOf};
 ghost use Rattle.sp_lex.specs.Texts.{text_of, characters_of};
 
@@ -29,6 +31,13 @@ pub fn tokens_are_slices_of_their_source()
 /// A text stands for the characters that it is written of.
 pub fn texts_stand_for_their_characters()
     ensures { (characters : List ℕ) → characters_of (text_of characters) ≡ characters }
+{}
+
+/// Commas divide tokens into items in one way.
+pub fn commas_divide_items()
+    ensures items { (source : List ℕ) (tokens : List Token) → AreItems source tokens (items_of source tokens) }
+    ensures one { (source : List ℕ) (tokens : List Token) (one other : List (List Token))
+        → AreItems source tokens one → AreItems source tokens other → one ≡ other }
 {}
 
 /// A line has at most 4,096 bytes without its end.

@@ -1,5 +1,5 @@
 ghost use Rattle.std.specs.Prelude.{◌≡◌, ◌<◌, ◌≤◌, ◌+◌, ◌^◌, length};
-ghost use Rattle.sp_base.specs.Refused.{Answers};
+ghost use Rattle.sp_base.specs.Refused.{Answers, IsComplete};
 ghost use Rattle.sp_lex.specs.Reading.{AreLines, IsFaultAt};
 ghost use Rattle.sp_lex.specs.code.Lines.{after_blanks, finished, kind_by, line_at, is_end_line, GivesLine};
 
@@ -97,7 +97,8 @@ fn line_feeds(source: &[u8]) -> usize
 /// of one line's faults the first in the order of `TextKind`.
 pub fn lines(alloc: Global, source: &[u8]) -> Result<Lines, LexRefusal>
     requires { length source.now < 4294967295 }
-    ensures { Answers (AreLines source.now) (IsFaultAt source.now) result }
+    ensures says { Answers (AreLines source.now) (IsFaultAt source.now) result }
+    ensures complete { IsComplete (AreLines source.now) (IsFaultAt source.now) result }
 {
     let mut lines = Vec::with_capacity(alloc, line_feeds(source) + 1)?;
     let mut tokens = Vec::new(alloc);

@@ -1,4 +1,4 @@
-use Rattle.std.proofs.Common.{[], ◌∷◌, ◌++◌, codes, refl}
+use Rattle.std.proofs.Common.{[], ◌∷◌, codes, refl}
 use Rattle.sp_base.specs.Lines.{rows_of}
 use Rattle.sp_lex.specs.declared.token.TokenKind.TheVariants.{Name}
 use Rattle.sp_lex.specs.Examples.{annotation, empty, statement, token}

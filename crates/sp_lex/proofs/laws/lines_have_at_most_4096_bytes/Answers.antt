@@ -1,4 +1,4 @@
-use Rattle.std.proofs.Common.{[], replicate, refl}
+use Rattle.std.proofs.Common.{replicate, refl}
 use Rattle.sp_lex.specs.declared.refusal.TextKind.TheVariants.{LongLine}
 use Rattle.sp_lex.specs.Pieces.{tokens_from}
 use Rattle.sp_lex.specs.Examples.{empty}

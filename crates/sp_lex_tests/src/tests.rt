@@ -1,5 +1,5 @@
-use crate::{LexRefusal, LineKind, Lines, TokenKind, characters, lines, name, number};
-use sp_base::Line;
+use sp_base::{Line, Refused};
+use sp_lex::{LineKind, Lines, TextKind, TokenKind, characters, lines, name, number};
 use std::alloc::Global;
 use std::process::Abort;
 use std::test::Fail;
@@ -33,16 +33,22 @@ fn kinds(alloc: Global, lines: &Lines) -> Result<String, Fail> {
     Ok(text)
 }
 
+fn fault_word(kind: TextKind) -> &'static str {
+    match kind {
+        TextKind::LongLine => "long",
+        TextKind::BadByte => "byte",
+        TextKind::OpenQuote => "quote",
+        TextKind::BadNumber => "number",
+    }
+}
+
 /// The kinds of a source's lines and tokens, or its refusal, as a text.
 fn shape(rt: &impl Abort, alloc: Global, source: &[u8]) -> Result<String, Fail> {
     assert!(rt; source.len() < 10_000);
     match lines(alloc, source) {
         Ok(lines) => kinds(alloc, &lines),
-        Err(LexRefusal::LongLine(Line(n))) => Ok(format!(in alloc; "long {n}")?),
-        Err(LexRefusal::BadByte(Line(n))) => Ok(format!(in alloc; "byte {n}")?),
-        Err(LexRefusal::OpenQuote(Line(n))) => Ok(format!(in alloc; "quote {n}")?),
-        Err(LexRefusal::BadNumber(Line(n))) => Ok(format!(in alloc; "number {n}")?),
-        Err(LexRefusal::Memory) => Ok(String::from_str(alloc, "memory")?),
+        Err(Refused::At(Line(n), kind)) => Ok(format!(in alloc; "{} {n}", fault_word(kind))?),
+        Err(Refused::Memory) => Ok(String::from_str(alloc, "memory")?),
     }
 }
 
@@ -153,20 +159,32 @@ fn tokens_have_places_and_values(rt: HostRuntime) -> Result<(), Fail> {
         places.as_slice(),
         [(2, 6), (7, 8), (8, 11), (16, 19)].as_slice()
     );
-    let numbers: [(&[u8], Option<u64>); 9] = [
-        (b"0BH", Some(11)),
-        (b"1b", Some(1)),
-        (b"12q", Some(10)),
-        (b"12D", Some(12)),
-        (b"0FFFFh", Some(65_535)),
-        (b"9223372036854775807", Some(9_223_372_036_854_775_807)),
-        (b"9223372036854775808", None),
-        (b"1H0", None),
-        (b"H", None),
-    ];
-    for (text, want) in numbers {
-        assert_eq!(rt; number(text), want, "at {text:?}");
+    Ok(())
+}
+
+/// Numbers as they are written, with their values.
+static NUMBERS: [(&[u8], Option<u64>); 9] = [
+    (b"0BH", Some(11)),
+    (b"1b", Some(1)),
+    (b"12q", Some(10)),
+    (b"12D", Some(12)),
+    (b"0FFFFh", Some(65_535)),
+    (b"9223372036854775807", Some(9_223_372_036_854_775_807)),
+    (b"9223372036854775808", None),
+    (b"1H0", None),
+    (b"H", None),
+];
+
+#[test]
+fn numbers_have_values(rt: HostRuntime) -> Result<(), Fail> {
+    for (text, want) in &NUMBERS {
+        assert_eq!(rt; number(text), *want, "at {text:?}");
     }
+    Ok(())
+}
+
+#[test]
+fn names_and_texts_are_read(rt: HostRuntime) -> Result<(), Fail> {
     assert_eq!(rt;
         name(b"l@op?1").map(|name| name.as_slice() == b"L@OP?1".as_slice()),
         Some(true)
