@@ -2,6 +2,7 @@
 #![tactic(auto)]
 
 mod laws;
+mod substitution;
 mod term;
 mod var;
 
@@ -10,5 +11,6 @@ pub use laws::{
     nodes_and_depths_are_counted, quantifiers_bind_in_their_formulas, replacing_is_assigning,
     replacing_keeps_terms, values_depend_on_free_variables,
 };
+pub use substitution::substitute;
 pub use term::{Kind, Term, depth, make, size};
 pub use var::Var;
