@@ -1,6 +1,7 @@
 -- Operands have one list of values, or one that has none.
 use Rattle.std.proofs.Common.{◌≡◌, ◌⊎◌, inl, inr, ℕ, zero, suc, ◌<◌, Bool, true, false, cond, List, [], ◌∷◌, length, get_or, Option, Some, None, refl, sym, ap, subst, ◌∙◌, arith}
 use Rattle.std.specs.Prelude.{Contains, is_some}
+use Rattle.sp_expr.specs.declared.setting.Setting.TheVariants.{Statement}
 use Rattle.sp_expr.specs.declared.word.Word.{Word}
 use Rattle.sp_expr.specs.declared.word.Word.TheVariants as words
 use Rattle.sp_expr.specs.Undefined.{first_undefined}
@@ -72,13 +73,13 @@ no_value_is_some (Some a) h e = none_is_some a e
 module _ (names : List ℕ → Option ℕ) (here : ℕ) where
   -- however a tree is made
   pub one_value : (ws : List Word) (a b : ℕ) → HasValue names here ws a → HasValue names here ws b → a ≡ b
-  one_value ws a b h k = same_some a b (sym h.value_is ∙ sym (value_is names here ws h.tree h.spells) ∙ value_is names here ws k.tree k.spells ∙ k.value_is)
+  one_value ws a b h k = same_some a b (sym h.value_is ∙ sym (value_is Statement names here ws h.tree h.spells) ∙ value_is Statement names here ws k.tree k.spells ∙ k.value_is)
 
   pub value_or_none : (ws : List Word) (value : ℕ) → HasValue names here ws value → HasNoValue names here ws → ⊥
   value_or_none ws value h (inl undefined) = let e = sym h.defined ∙ undefined.1 in cc
   value_or_none ws value h (inr zero_divisor) =
       let k = zero_divisor.1 in
-      none_is_some value (sym h.value_is ∙ sym (value_is names here ws h.tree h.spells) ∙ value_is names here ws k.0 k.1 ∙ k.2)
+      none_is_some value (sym h.value_is ∙ sym (value_is Statement names here ws h.tree h.spells) ∙ value_is Statement names here ws k.0 k.1 ∙ k.2)
 
   pub value_or_missing : (ws : List Word) (value : ℕ) (name : List ℕ) → HasValue names here ws value → Contains ws (words.Name name) → names name ≡ None → ⊥
   value_or_missing ws value name h used missing = no_value_is_some (names name) (used_is_defined names ws name h.defined used) missing

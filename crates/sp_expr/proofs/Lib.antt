@@ -1,8 +1,8 @@
+pub mod KeptLemmas
 pub mod NestingLaws
 pub mod RunLaws
 pub mod ScanLaws
 pub mod SentenceLaws
-pub mod TokenLaws
 pub mod TreeLaws
 pub mod ValueLaws
 pub mod WordLaws

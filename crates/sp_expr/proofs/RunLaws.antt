@@ -5,7 +5,7 @@ use Rattle.std.proofs.Common.{length-append, length-take}
 use Rattle.std.proofs.lemmas.List.{at_drop_more, at_drop_all}
 use Rattle.sp_expr.specs.declared.word.Word.{Word}
 use Rattle.sp_expr.specs.declared.word.Word.TheVariants as words
-use Rattle.sp_expr.specs.Evaluation.{State, step, run, fits}
+use Rattle.sp_expr.specs.code.Evaluation.{State, step, run, fits}
 use Rattle.sp_expr.specs.Undefined.{first_undefined}
 
 and_left : (a b : Bool) → (a && b) ≡ true → a ≡ true

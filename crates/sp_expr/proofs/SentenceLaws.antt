@@ -1,15 +1,20 @@
 -- The words of an expression are accepted.
-use Rattle.std.proofs.Common.{◌≡◌, ℕ, suc, ◌+◌, ◌<◌, ◌≤◌, true, false, cond, List, [], ◌∷◌, ◌++◌, Some, None, refl, sym, ap, ◌∙◌, arith, append_assoc, inl, inr}
-use Rattle.std.specs.Prelude.{nat_le}
+use Rattle.std.proofs.Common.{◌≡◌, ℕ, suc, ◌+◌, ◌<◌, ◌≤◌, Bool, true, false, cond, List, [], ◌∷◌, ◌++◌, Some, None, refl, sym, ap, ◌∙◌, arith, append_assoc, inl, inr}
+use Rattle.std.specs.Prelude.{nat_le, not}
 use Rattle.std.proofs.lemmas.Bool.{eq-eqb, cases_Bool}
 use Rattle.std.proofs.lemmas.List.{append-nil}
+use Rattle.sp_words.specs.code.Tables.{is_annotation_word}
+use Rattle.sp_words.proofs.AnnotationLemmas.{is_annotation_exact}
+use Rattle.sp_expr.specs.declared.setting.Setting.{Setting}
+use Rattle.sp_expr.specs.declared.setting.Setting.TheVariants.{Statement, Annotation}
+use Rattle.sp_expr.specs.Setting.{HasAddress, IsName}
 use Rattle.sp_expr.specs.declared.word.Word.{Word}
 use Rattle.sp_expr.specs.declared.word.Word.TheVariants as words
 use Rattle.sp_expr.specs.declared.sentence.Place.{Place}
 use Rattle.sp_expr.specs.declared.sentence.Place.TheVariants.{Start, Operand, After}
 use Rattle.sp_expr.specs.Arithmetic.{rank_of}
-use Rattle.sp_expr.specs.Sentence.{accepts, is_sentence}
-use Rattle.sp_expr.specs.Trees.{Tree, Number, Name, Here, Paren, Sign, Not, Binary, rank_of_tree, IsExpression, spelling, Spells}
+use Rattle.sp_expr.specs.code.Sentence.{has_address, is_name, accepts_in, is_sentence_in}
+use Rattle.sp_expr.specs.Trees.{Tree, Number, Name, Here, Paren, Sign, Not, Binary, rank_of_tree, IsExpression, spelling, SpellsIn}
 
 -- where a tree of this rank may stand
 abbrev MayStand : Place → ℕ → Type 0
@@ -34,45 +39,77 @@ tighter After low high le may = absurd may
 low_rank : (low rank : ℕ) → low < rank → nat_le rank 2 ≡ true → low ≤ 1
 low_rank low rank lt le = grind arith
 
-accepts-tree : (t : Tree) → IsExpression t → (place : Place) (opened : ℕ) (rest : List Word) → MayStand place (rank_of_tree t)
-    → accepts (spelling t ++ rest) (Some (place, opened)) ≡ accepts rest (Some (After, opened))
-unfolding spelling accepts
-accepts-tree (Number n) h Start opened rest may = refl
-accepts-tree (Number n) h Operand opened rest may = refl
-accepts-tree (Number n) h After opened rest may = absurd may
-accepts-tree (Name name) h Start opened rest may = refl
-accepts-tree (Name name) h Operand opened rest may = refl
-accepts-tree (Name name) h After opened rest may = absurd may
-accepts-tree Here h Start opened rest may = refl
-accepts-tree Here h Operand opened rest may = refl
-accepts-tree Here h After opened rest may = absurd may
-accepts-tree (Paren t) h Start opened rest may =
-    ap (λ ws. accepts ws (Some (Start, opened + 1))) (append_assoc (spelling t) (words.Close ∷ []) rest) ∙ accepts-tree t h Start (opened + 1) (words.Close ∷ rest) tt
-    ∙ ap (λ k. accepts (words.Close ∷ rest) (Some (After, k))) (suc_of opened)
-accepts-tree (Paren t) h Operand opened rest may =
-    ap (λ ws. accepts ws (Some (Start, opened + 1))) (append_assoc (spelling t) (words.Close ∷ []) rest) ∙ accepts-tree t h Start (opened + 1) (words.Close ∷ rest) tt
-    ∙ ap (λ k. accepts (words.Close ∷ rest) (Some (After, k))) (suc_of opened)
-accepts-tree (Paren t) h After opened rest may = absurd may
-accepts-tree (Sign sign t) h Start opened rest may =
-    ap (λ b. accepts (spelling t ++ rest) (cond b (Some (Operand, opened)) None)) (eq-eqb (rank_of sign) 2 h.0) ∙ accepts-tree t h.2 Operand opened rest h.1
-accepts-tree (Sign sign t) h Operand opened rest may = absurd (omega arith)
-accepts-tree (Sign sign t) h After opened rest may = absurd may
-accepts-tree (Not t) h Start opened rest may = accepts-tree t h.1 Start opened rest tt
-accepts-tree (Not t) h Operand opened rest may = absurd (omega arith)
-accepts-tree (Not t) h After opened rest may = absurd may
-accepts-tree (Binary operator l r) h place opened rest may =
-    ap (λ ws. accepts ws (Some (place, opened))) (append_assoc (spelling l) (words.Operator operator ∷ spelling r) rest)
-    ∙ accepts-tree l h.2 place opened (words.Operator operator ∷ (spelling r ++ rest)) (tighter place (rank_of_tree l) (rank_of operator) h.0 may)
+-- ---- settings
+
+other : (b : Bool) → (b ≡ true → ⊥) → not b ≡ true
+other true h = absurd (h refl)
+other false h = refl
+
+other_not : (b : Bool) → not b ≡ true → b ≡ true → ⊥
+other_not true h e = absurd cc
+other_not false h e = absurd cc
+
+pub address_is : (setting : Setting) → HasAddress setting → has_address setting ≡ true
+address_is Statement h = refl
+address_is Annotation h = absurd h
+
+pub has_address_is : (setting : Setting) → has_address setting ≡ true → HasAddress setting
+has_address_is Statement h = tt
+has_address_is Annotation h = absurd cc
+
+pub name_is : (setting : Setting) (name : List ℕ) → IsName setting name → is_name setting name ≡ true
+name_is Statement name h = refl
+name_is Annotation name h = other (is_annotation_word name) (λ e. h ((is_annotation_exact name).0 e))
+
+pub is_name_is : (setting : Setting) (name : List ℕ) → is_name setting name ≡ true → IsName setting name
+is_name_is Statement name h = tt
+is_name_is Annotation name h = λ word. other_not (is_annotation_word name) h ((is_annotation_exact name).1 word)
+
+may : (setting : Setting) (b : Bool) (opened : ℕ) (rest : List Word) → b ≡ true
+    → accepts_in setting rest (cond b (Some (After, opened)) None) ≡ accepts_in setting rest (Some (After, opened))
+may setting b opened rest e = ap (λ c. accepts_in setting rest (cond c (Some (After, opened)) None)) e
+
+-- ---- trees
+
+accepts-tree : (setting : Setting) (t : Tree) → IsExpression setting t → (place : Place) (opened : ℕ) (rest : List Word) → MayStand place (rank_of_tree t)
+    → accepts_in setting (spelling t ++ rest) (Some (place, opened)) ≡ accepts_in setting rest (Some (After, opened))
+unfolding spelling accepts_in
+accepts-tree setting (Number n) h Start opened rest stands = refl
+accepts-tree setting (Number n) h Operand opened rest stands = refl
+accepts-tree setting (Number n) h After opened rest stands = absurd stands
+accepts-tree setting (Name name) h Start opened rest stands = may setting (is_name setting name) opened rest (name_is setting name h)
+accepts-tree setting (Name name) h Operand opened rest stands = may setting (is_name setting name) opened rest (name_is setting name h)
+accepts-tree setting (Name name) h After opened rest stands = absurd stands
+accepts-tree setting Here h Start opened rest stands = may setting (has_address setting) opened rest (address_is setting h)
+accepts-tree setting Here h Operand opened rest stands = may setting (has_address setting) opened rest (address_is setting h)
+accepts-tree setting Here h After opened rest stands = absurd stands
+accepts-tree setting (Paren t) h Start opened rest stands =
+    ap (λ ws. accepts_in setting ws (Some (Start, opened + 1))) (append_assoc (spelling t) (words.Close ∷ []) rest) ∙ accepts-tree setting t h Start (opened + 1) (words.Close ∷ rest) tt
+    ∙ ap (λ k. accepts_in setting (words.Close ∷ rest) (Some (After, k))) (suc_of opened)
+accepts-tree setting (Paren t) h Operand opened rest stands =
+    ap (λ ws. accepts_in setting ws (Some (Start, opened + 1))) (append_assoc (spelling t) (words.Close ∷ []) rest) ∙ accepts-tree setting t h Start (opened + 1) (words.Close ∷ rest) tt
+    ∙ ap (λ k. accepts_in setting (words.Close ∷ rest) (Some (After, k))) (suc_of opened)
+accepts-tree setting (Paren t) h After opened rest stands = absurd stands
+accepts-tree setting (Sign sign t) h Start opened rest stands =
+    ap (λ b. accepts_in setting (spelling t ++ rest) (cond b (Some (Operand, opened)) None)) (eq-eqb (rank_of sign) 2 h.0) ∙ accepts-tree setting t h.2 Operand opened rest h.1
+accepts-tree setting (Sign sign t) h Operand opened rest stands = absurd (omega arith)
+accepts-tree setting (Sign sign t) h After opened rest stands = absurd stands
+accepts-tree setting (Not t) h Start opened rest stands = accepts-tree setting t h.1 Start opened rest tt
+accepts-tree setting (Not t) h Operand opened rest stands = absurd (omega arith)
+accepts-tree setting (Not t) h After opened rest stands = absurd stands
+accepts-tree setting (Binary operator l r) h place opened rest stands =
+    ap (λ ws. accepts_in setting ws (Some (place, opened))) (append_assoc (spelling l) (words.Operator operator ∷ spelling r) rest)
+    ∙ accepts-tree setting l h.2 place opened (words.Operator operator ∷ (spelling r ++ rest)) (tighter place (rank_of_tree l) (rank_of operator) h.0 stands)
     ∙ elim (cases_Bool (nat_le (rank_of operator) 2)) [
       | inl low ↦
-          ap (λ b. accepts (spelling r ++ rest) (cond b (Some (Operand, opened)) (Some (Start, opened)))) low
-          ∙ accepts-tree r h.3 Operand opened rest (low_rank (rank_of_tree r) (rank_of operator) h.1 low)
+          ap (λ b. accepts_in setting (spelling r ++ rest) (cond b (Some (Operand, opened)) (Some (Start, opened)))) low
+          ∙ accepts-tree setting r h.3 Operand opened rest (low_rank (rank_of_tree r) (rank_of operator) h.1 low)
       | inr high ↦
-          ap (λ b. accepts (spelling r ++ rest) (cond b (Some (Operand, opened)) (Some (Start, opened)))) high
-          ∙ accepts-tree r h.3 Start opened rest tt
+          ap (λ b. accepts_in setting (spelling r ++ rest) (cond b (Some (Operand, opened)) (Some (Start, opened)))) high
+          ∙ accepts-tree setting r h.3 Start opened rest tt
     ]
 
-pub spelled_is_sentence : (ws : List Word) (t : Tree) → Spells ws t → is_sentence ws ≡ true
-unfolding accepts
-spelled_is_sentence ws t h =
-    ap (λ w. accepts w (Some (Start, 0))) (h.whole ∙ sym (append-nil (spelling t))) ∙ accepts-tree t h.grammar Start 0 [] tt
+pub spelled_is_sentence : (setting : Setting) (ws : List Word) (t : Tree) → SpellsIn setting ws t → is_sentence_in setting ws ≡ true
+unfolding accepts_in
+spelled_is_sentence setting ws t h =
+    ap (λ w. accepts_in setting w (Some (Start, 0))) (h.whole ∙ sym (append-nil (spelling t))) ∙ accepts-tree setting t h.grammar Start 0 [] tt

@@ -5,6 +5,7 @@ use Rattle.std.specs.Int.Bits.{xor_assoc, xor_self, xor_zero_r}
 use Rattle.std.proofs.Common.{length-append}
 use Rattle.std.proofs.lemmas.List.{append-nil}
 use Rattle.std.proofs.Math.Seq.{take-append_seam}
+use Rattle.sp_expr.specs.declared.setting.Setting.{Setting}
 use Rattle.sp_expr.specs.declared.word.Operator.{Operator}
 use Rattle.sp_expr.specs.declared.word.Operator.TheVariants as op
 use Rattle.sp_expr.specs.declared.word.Word.{Word}
@@ -12,10 +13,10 @@ use Rattle.sp_expr.specs.declared.word.Word.TheVariants as words
 use Rattle.sp_expr.specs.declared.level.Pending.{Pending}
 use Rattle.sp_expr.specs.declared.level.Level.{Level}
 use Rattle.sp_expr.specs.Arithmetic.{applied, inverted, rank_of}
-use Rattle.sp_expr.specs.Level.{level, settled, inverted_if, value_with, behind, pending, empty}
+use Rattle.sp_expr.specs.code.Level.{level, settled, inverted_if, value_with, after_rank, pending, empty}
 use Rattle.sp_expr.specs.Trees.Tree.{Number, Name, Here, Paren, Sign, Not, Binary}
-use Rattle.sp_expr.specs.Trees.{Tree, rank_of_tree, IsExpression, spelling, value_of, Spells}
-use Rattle.sp_expr.specs.Evaluation.{state, start, run, finished, closed}
+use Rattle.sp_expr.specs.Trees.{Tree, rank_of_tree, IsExpression, spelling, value_of, SpellsIn}
+use Rattle.sp_expr.specs.code.Evaluation.{state, start, run, finished, closed}
 
 -- ---- NOT
 
@@ -134,11 +135,11 @@ not_read names here t h o a b outer operand rest =
     let k = h o a (not b) outer operand rest in
     (k.0, k.1, k.2, k.3, k.4, k.5 ∙ flip b (value_of names here t))
 
--- an operator behind an operand
+-- an operator after an operand
 operator_read : (names : List ℕ → Option ℕ) (here : ℕ) (operator : Operator) (rank : ℕ) (l : Level) (outer : List Level) (v : Option ℕ) (rest : List Word) → rank_of operator ≡ rank
-    → run names here (state l outer v true) (words.Operator operator ∷ rest) ≡ run names here (state (behind rank operator l v) outer v false) rest
+    → run names here (state l outer v true) (words.Operator operator ∷ rest) ≡ run names here (state (after_rank rank operator l v) outer v false) rest
 unfolding run
-operator_read names here operator rank l outer v rest e = ap (λ k. run names here (state (behind k operator l v) outer v false) rest) e
+operator_read names here operator rank l outer v rest e = ap (λ k. run names here (state (after_rank k operator l v) outer v false) rest) e
 
 binary_words : (operator : Operator) (l r : Tree) (rest : List Word) → spelling (Binary operator l r) ++ rest ≡ spelling l ++ words.Operator operator ∷ (spelling r ++ rest)
 unfolding spelling
@@ -193,23 +194,23 @@ binary_read names here operator (suc (suc (suc (suc zero)))) l r e hl hr = λ ou
 binary_read names here operator (suc (suc (suc (suc (suc rank))))) l r e hl hr = absurd (omega (arith, rank_bound operator))
 
 -- every expression is read so
-pub reads : (names : List ℕ → Option ℕ) (here : ℕ) (t : Tree) → IsExpression t → Reads names here (rank_of_tree t) t
+pub reads : (setting : Setting) (names : List ℕ → Option ℕ) (here : ℕ) (t : Tree) → IsExpression setting t → Reads names here (rank_of_tree t) t
 unfolding spelling run
-reads names here (Number n) h = λ l outer operand rest. refl
-reads names here (Name name) h = λ l outer operand rest. refl
-reads names here Here h = λ l outer operand rest. refl
-reads names here (Paren t) h = paren names here t (up_to names here (rank_of_tree t) 5 t (tree_bound t) (reads names here t h))
-reads names here (Sign sign t) h = sign_read names here sign t (up_to names here (rank_of_tree t) 1 t h.1 (reads names here t h.2))
-reads names here (Not t) h = not_read names here t (up_to names here (rank_of_tree t) 3 t h.0 (reads names here t h.1))
-reads names here (Binary operator l r) h =
+reads setting names here (Number n) h = λ l outer operand rest. refl
+reads setting names here (Name name) h = λ l outer operand rest. refl
+reads setting names here Here h = λ l outer operand rest. refl
+reads setting names here (Paren t) h = paren names here t (up_to names here (rank_of_tree t) 5 t (tree_bound t) (reads setting names here t h))
+reads setting names here (Sign sign t) h = sign_read names here sign t (up_to names here (rank_of_tree t) 1 t h.1 (reads setting names here t h.2))
+reads setting names here (Not t) h = not_read names here t (up_to names here (rank_of_tree t) 3 t h.0 (reads setting names here t h.1))
+reads setting names here (Binary operator l r) h =
     let e : rank_of operator ≡ suc (rank_of operator - 1) = omega (arith, h.1) in
     subst (λ k. Reads names here k (Binary operator l r)) (sym e)
     (binary_read names here operator (rank_of operator - 1) l r e
-    (subst (λ k. Reads names here k l) e (up_to names here (rank_of_tree l) (rank_of operator) l h.0 (reads names here l h.2)))
-    (up_to names here (rank_of_tree r) (rank_of operator - 1) r (omega (arith, h.1)) (reads names here r h.3)))
+    (subst (λ k. Reads names here k l) e (up_to names here (rank_of_tree l) (rank_of operator) l h.0 (reads setting names here l h.2)))
+    (up_to names here (rank_of_tree r) (rank_of operator - 1) r (omega (arith, h.1)) (reads setting names here r h.3)))
 
-pub value_is : (names : List ℕ → Option ℕ) (here : ℕ) (ws : List Word) (t : Tree) → Spells ws t → finished (run names here start ws) ≡ value_of names here t
+pub value_is : (setting : Setting) (names : List ℕ → Option ℕ) (here : ℕ) (ws : List Word) (t : Tree) → SpellsIn setting ws t → finished (run names here start ws) ≡ value_of names here t
 unfolding run
-value_is names here ws t h =
-    let k = up_to names here (rank_of_tree t) 5 t (tree_bound t) (reads names here t h.grammar) [] (Some 0) [] in
+value_is setting names here ws t h =
+    let k = up_to names here (rank_of_tree t) 5 t (tree_bound t) (reads setting names here t h.grammar) [] (Some 0) [] in
     ap (λ w. finished (run names here start w)) (h.whole ∙ sym (append-nil (spelling t))) ∙ ap finished k.2 ∙ k.3

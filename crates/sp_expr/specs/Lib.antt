@@ -1,11 +1,8 @@
-pub mod Answers
 pub mod Arithmetic
-pub mod Evaluation
-pub mod Level
-pub mod Nesting
-pub mod Reserved
-pub mod Sentence
-pub mod States
+pub mod Examples
+pub mod Parsing
+pub mod Setting
 pub mod Trees
 pub mod Undefined
 pub mod Words
+pub mod code

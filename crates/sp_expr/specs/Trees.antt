@@ -1,9 +1,13 @@
--- Trees of expressions: how each is written, and what its value is.
+-- Trees of expressions: how each is written, and what its value is (8080 Assembly Language Programming Manual, "Arithmetic
+-- and logical expressions"; the ranks of operators are this project's own).
 use Rattle.std.specs.Prelude.{◌≡◌, ℕ, ◌+◌, ◌%◌, ◌<◌, ◌≤◌, max, List, [], ◌∷◌, ◌++◌, Option, Some, unwrap_or, ⊤}
+use Rattle.sp_expr.specs.declared.setting.Setting.{Setting}
+use Rattle.sp_expr.specs.declared.setting.Setting.TheVariants.{Statement}
 use Rattle.sp_expr.specs.declared.word.Operator.{Operator}
 use Rattle.sp_expr.specs.declared.word.Word.{Word}
 use Rattle.sp_expr.specs.declared.word.Word.TheVariants as words
 use Rattle.sp_expr.specs.Arithmetic.{applied, inverted, rank_of}
+use Rattle.sp_expr.specs.Setting.{HasAddress, IsName}
 
 pub data Tree : Type 0 where
   Number : ℕ → Tree
@@ -24,16 +28,17 @@ rank_of_tree (Sign sign tree) = 2
 rank_of_tree (Not tree) = 3
 rank_of_tree (Binary operator left right) = rank_of operator
 
--- the grammar: operators of one rank go from the left, an operand has no looser rank, and a sign stands before the first
--- product of a sum
-abbrev pub IsExpression : Tree → Type 0
-IsExpression (Number n) = ⊤
-IsExpression (Name name) = ⊤
-IsExpression Here = ⊤
-IsExpression (Paren tree) = IsExpression tree
-IsExpression (Sign sign tree) = (rank_of sign ≡ 2) × (rank_of_tree tree ≤ 1) × IsExpression tree
-IsExpression (Not tree) = (rank_of_tree tree ≤ 3) × IsExpression tree
-IsExpression (Binary operator left right) = (rank_of_tree left ≤ rank_of operator) × (rank_of_tree right < rank_of operator) × IsExpression left × IsExpression right
+-- the grammar: operators of one rank go from the left, an operand has no looser rank, a sign stands before the first product
+-- of a sum, and names and `$` are those of the setting
+abbrev pub IsExpression : Setting → Tree → Type 0
+IsExpression setting (Number n) = ⊤
+IsExpression setting (Name name) = IsName setting name
+IsExpression setting Here = HasAddress setting
+IsExpression setting (Paren tree) = IsExpression setting tree
+IsExpression setting (Sign sign tree) = (rank_of sign ≡ 2) × (rank_of_tree tree ≤ 1) × IsExpression setting tree
+IsExpression setting (Not tree) = (rank_of_tree tree ≤ 3) × IsExpression setting tree
+IsExpression setting (Binary operator left right) =
+    (rank_of_tree left ≤ rank_of operator) × (rank_of_tree right < rank_of operator) × IsExpression setting left × IsExpression setting right
 
 -- the words that a tree is written with
 unfoldable pub spelling : Tree → List Word
@@ -45,10 +50,14 @@ spelling (Sign sign tree) = words.Operator sign ∷ spelling tree
 spelling (Not tree) = words.Not ∷ spelling tree
 spelling (Binary operator left right) = spelling left ++ words.Operator operator ∷ spelling right
 
--- these words are an expression, and this is its tree
-pub record Spells (ws : List Word) (tree : Tree) : Type 0 where
-  pub grammar : IsExpression tree
+-- these words are an expression of this setting, and this is its tree
+pub record SpellsIn (setting : Setting) (ws : List Word) (tree : Tree) : Type 0 where
+  pub grammar : IsExpression setting tree
   pub whole : ws ≡ spelling tree
+
+-- of statements
+abbrev pub Spells : List Word → Tree → Type 0
+Spells ws tree = SpellsIn Statement ws tree
 
 -- how many parentheses and NOTs are nested
 abbrev pub depth_of : Tree → ℕ

@@ -1,6 +1,6 @@
--- The words of an expression, and the tokens that stand for them.
-use Rattle.std.specs.Prelude.{ℕ, ◌%◌, ◌≤◌, Bool, nat_eq, nat_le, if◌then◌else◌, List, [], ◌∷◌, length, Option, Some, None, codes, All}
-use Rattle.std.specs.List.{slice_range}
+-- The words of an expression, and the tokens that stand for them (8080 Assembly Language Programming Manual, "Operand field"
+-- and "Arithmetic and logical expressions").
+use Rattle.std.specs.Prelude.{ℕ, ◌%◌, Bool, nat_eq, nat_le, if◌then◌else◌, List, [], ◌∷◌, length, Option, Some, None, codes}
 use Rattle.std.specs.Option.{option_map}
 use Rattle.std.specs.Cmp.Lexicographic.{pointwise}
 use Rattle.sp_lex.specs.declared.token.Token.{Token}
@@ -9,25 +9,26 @@ use Rattle.sp_lex.specs.declared.token.TokenKind.TheVariants as tokens
 use Rattle.sp_lex.specs.Names.{folded}
 use Rattle.sp_lex.specs.Numbers.{number_of, at_most}
 use Rattle.sp_lex.specs.Texts.{characters_of}
+use Rattle.sp_words.specs.declared.operator.NamedOperator.{NamedOperator}
+use Rattle.sp_words.specs.declared.operator.NamedOperator.TheVariants as named
+use Rattle.sp_words.specs.code.Tables.{operator_named, is_reserved}
 use Rattle.sp_expr.specs.declared.word.Operator.TheVariants as op
 use Rattle.sp_expr.specs.declared.word.Word.{Word}
 use Rattle.sp_expr.specs.declared.word.Word.TheVariants as words
-use Rattle.sp_expr.specs.Reserved.{is_reserved}
+pub use Rattle.sp_lex.specs.Readers.{text_of, IsIn, AreIn}
 
 abbrev pub is_word : List ℕ → List ℕ → Bool
 is_word text word = pointwise nat_eq text word
 
--- the operator or NOT that a name in upper case stands for
-unfoldable pub operator_named : List ℕ → Option Word
-operator_named name =
-    if is_word name (codes "MOD") then Some (words.Operator op.Modulo)
-    else (if is_word name (codes "SHL") then Some (words.Operator op.ShiftLeft)
-    else (if is_word name (codes "SHR") then Some (words.Operator op.ShiftRight)
-    else (if is_word name (codes "NOT") then Some words.Not
-    else (if is_word name (codes "AND") then Some (words.Operator op.And)
-    else (if is_word name (codes "OR") then Some (words.Operator op.Or)
-    else (if is_word name (codes "XOR") then Some (words.Operator op.Xor)
-    else None))))))
+-- an operator that is written as a word
+abbrev pub operator_word : NamedOperator → Word
+operator_word named.Mod = words.Operator op.Modulo
+operator_word named.Shl = words.Operator op.ShiftLeft
+operator_word named.Shr = words.Operator op.ShiftRight
+operator_word named.Not = words.Not
+operator_word named.And = words.Operator op.And
+operator_word named.Or = words.Operator op.Or
+operator_word named.Xor = words.Operator op.Xor
 
 -- a name, unless it is a reserved word
 abbrev pub plain_name : List ℕ → Option Word
@@ -39,7 +40,7 @@ or_else (Some word) other = Some word
 
 -- the word of a name in upper case
 abbrev pub name_word : List ℕ → Option Word
-name_word name = or_else (operator_named name) (plain_name name)
+name_word name = or_else (option_map operator_word (operator_named name)) (plain_name name)
 
 -- the word of a symbol
 unfoldable pub symbol_word : List ℕ → Option Word
@@ -66,9 +67,6 @@ word_of tokens.Text text = character_word (characters_of text)
 word_of tokens.Symbol text = symbol_word text
 word_of tokens.Name text = if nat_le (length text) 31 then name_word (folded text) else None
 
-abbrev pub text_of : List ℕ → Token → List ℕ
-text_of source token = slice_range source token.start token.end
-
 abbrev pub with_word : Option Word → Option (List Word) → Option (List Word)
 with_word None rest = None
 with_word (Some word) None = None
@@ -78,11 +76,3 @@ with_word (Some word) (Some rest) = Some (word ∷ rest)
 unfoldable pub words_of : List ℕ → List Token → Option (List Word)
 words_of source [] = Some []
 words_of source (token ∷ tokens) = with_word (word_of token.kind (text_of source token)) (words_of source tokens)
-
--- the token lies in the source
-pub record IsIn (source : List ℕ) (token : Token) : Type 0 where
-  pub ordered : token.start ≤ token.end
-  pub within : token.end ≤ length source
-
-abbrev pub AreIn : List ℕ → List Token → Type 0
-AreIn source tokens = All (IsIn source) tokens

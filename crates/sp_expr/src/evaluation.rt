@@ -2,9 +2,9 @@ ghost use Rattle.std.specs.Prelude.{◌≡◌, ◌<◌, ◌%◌, [], ◌∷◌, 
 ghost use Rattle.std.specs.Cmp.Lexicographic.{pointwise};
 ghost use Rattle.std.specs.Prelude.{nat_eq};
 ghost use Rattle.indexmap.specs.IndexMap.{get};
-ghost use Rattle.sp_expr.specs.Evaluation.{state, start, with_operand, with_operator, closed, step, run, finished, fits};
+ghost use Rattle.sp_expr.specs.code.Evaluation.{state, start, with_operand, with_operator, closed, step, run, finished, fits};
 ghost use Rattle.sp_expr.specs.Undefined.{first_undefined};
-ghost use Rattle.sp_expr.specs.Level.{empty};
+ghost use Rattle.sp_expr.specs.code.Level.{empty};
 
 use crate::Symbols;
 use crate::level::Level;
@@ -26,7 +26,7 @@ struct Evaluation {
 }
 
 impl Evaluation {
-    ghost use Rattle.sp_expr.specs.States.{view};
+    ghost use Rattle.sp_expr.specs.code.States.{view};
 
     fn start() -> Evaluation
         ensures { view result ≡ start }
@@ -51,9 +51,9 @@ impl Evaluation {
     {
         let level = self.level;
         self.level = if self.after {
-            level.behind_operator(operator, self.operand)
+            level.after_operator(operator, self.operand)
         } else {
-            level.behind_sign(operator)
+            level.after_sign(operator)
         };
         self.after = false;
     }
@@ -83,7 +83,7 @@ impl Evaluation {
         }
     }
 
-    #[tactic(auto, unfolding(crate::specs::Evaluation::fits))]
+    #[tactic(auto, unfolding(crate::specs::code::Evaluation::fits))]
     fn step(&mut self, word: Word, names: &Symbols, here: u16)
         requires { fits (length self.old.outer.items) (word ∷ []) ≡ true }
         ensures { view self.new ≡ step (λ name. get (pointwise nat_eq) names.now name) here (view self.old) word }
@@ -93,7 +93,7 @@ impl Evaluation {
             Word::Name(name) => self.take_operand(Some(value_named(names, name))),
             Word::Here => self.take_operand(Some(here)),
             Word::Operator(operator) => self.take_operator(operator),
-            Word::Not => self.level = self.level.behind_not(),
+            Word::Not => self.level = self.level.after_not(),
             Word::Open => self.open(),
             Word::Close => self.close(),
         }

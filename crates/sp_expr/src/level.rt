@@ -1,5 +1,5 @@
 ghost use Rattle.std.specs.Prelude.{◌≡◌};
-ghost use Rattle.sp_expr.specs.Level.{settled, inverted_if, product_with, sum_with, not_with, both_with, value_with, behind_operator, behind_sign, behind_not, empty};
+ghost use Rattle.sp_expr.specs.code.Level.{settled, inverted_if, product_with, sum_with, not_with, both_with, value_with, after_operator, after_sign, after_not, empty};
 
 use crate::arithmetic::{applied, inverted};
 use crate::word::Operator;
@@ -85,9 +85,9 @@ impl Level {
         settled(self.either, self.both(operand))
     }
 
-    /// What waits behind an operator that follows an operand.
-    pub(crate) fn behind_operator(self, operator: Operator, operand: Option<u16>) -> Level
-        ensures { result ≡ behind_operator operator self operand }
+    /// What waits after an operator that follows an operand.
+    pub(crate) fn after_operator(self, operator: Operator, operand: Option<u16>) -> Level
+        ensures { result ≡ after_operator operator self operand }
     {
         match operator {
             Operator::Times
@@ -127,9 +127,9 @@ impl Level {
         }
     }
 
-    /// What waits behind a sign.
-    pub(crate) fn behind_sign(self, operator: Operator) -> Level
-        ensures { result ≡ behind_sign operator self }
+    /// What waits after a sign.
+    pub(crate) fn after_sign(self, operator: Operator) -> Level
+        ensures { result ≡ after_sign operator self }
     {
         let left = Some(0);
         Level {
@@ -138,9 +138,9 @@ impl Level {
         }
     }
 
-    /// What waits behind NOT.
-    pub(crate) fn behind_not(self) -> Level
-        ensures { result ≡ behind_not self }
+    /// What waits after NOT.
+    pub(crate) fn after_not(self) -> Level
+        ensures { result ≡ after_not self }
     {
         Level {
             inverted: !self.inverted,

@@ -9,8 +9,8 @@ mod laws;
 mod level;
 mod nesting;
 mod refusal;
-mod reserved;
 mod sentence;
+mod setting;
 mod tokens;
 mod word;
 
@@ -20,13 +20,14 @@ use sp_base::Name;
 /// Names with their values, in order of definition.
 pub type Symbols = IndexMap<Name, u16>;
 
-pub use expr::{Expr, parse, value};
+pub use expr::{Expr, parse, parse_in, value};
 pub use laws::{
-    an_expression_has_one_value, sentences_are_expressions, sentences_nest_as_their_trees,
+    an_expression_has_one_value, limit_by_example, operators_by_example, ranks_by_example,
+    refusals_by_example, sentences_are_expressions, sentences_nest_as_their_trees,
+    settings_by_example, signs_by_example, spellings_by_example, tokens_by_example,
+    values_by_example,
 };
 pub use refusal::{ExprRefusal, ParseRefusal};
-pub use reserved::is_reserved;
+pub use setting::Setting;
+pub use sp_words::is_reserved;
 pub use word::{Operator, Word};
-
-#[cfg(test)]
-mod tests;

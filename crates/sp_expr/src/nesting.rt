@@ -1,6 +1,6 @@
 ghost use Rattle.std.specs.Prelude.{◌≡◌, [], true};
 ghost use Rattle.sp_expr.specs.declared.word.Word.TheVariants as words;
-ghost use Rattle.sp_expr.specs.Nesting.{nest, nests, has_room, may_follow, behind, behind_operator, nests_within};
+ghost use Rattle.sp_expr.specs.code.Nesting.{nest, nests, has_room, may_follow, open_after, after_operator, nests_within};
 
 use crate::arithmetic::rank_of;
 use crate::word::{Operator, Word};
@@ -22,8 +22,8 @@ struct Nesting {
     outer: ArrayVec<Nest, 64>,
 }
 
-fn behind_operator(operator: Operator, here: Nest) -> Nest
-    ensures { result ≡ behind_operator operator here }
+fn after_operator(operator: Operator, here: Nest) -> Nest
+    ensures { result ≡ after_operator operator here }
 {
     if 2 < rank_of(operator) {
         Nest {
@@ -36,7 +36,7 @@ fn behind_operator(operator: Operator, here: Nest) -> Nest
 }
 
 impl Nesting {
-    ghost use Rattle.sp_expr.specs.States.{nests_of};
+    ghost use Rattle.sp_expr.specs.code.States.{nests_of};
 
     fn start() -> Nesting
         ensures { nests_of result ≡ nests (nest 0 0) [] }
@@ -67,7 +67,7 @@ impl Nesting {
 
     fn open(&mut self)
         requires { has_room (nests_of self.old) ≡ true }
-        ensures { nests_of self.new ≡ behind (nests_of self.old) words.Open }
+        ensures { nests_of self.new ≡ open_after (nests_of self.old) words.Open }
     {
         let here = self.here;
         self.outer.push(here);
@@ -78,7 +78,7 @@ impl Nesting {
     }
 
     fn close(&mut self)
-        ensures { nests_of self.new ≡ behind (nests_of self.old) words.Close }
+        ensures { nests_of self.new ≡ open_after (nests_of self.old) words.Close }
     {
         match self.outer.len().checked_sub(1) {
             Some(last) => {
@@ -96,13 +96,13 @@ impl Nesting {
 
     fn step(&mut self, word: Word)
         requires { may_follow (nests_of self.old) word ≡ true }
-        ensures { nests_of self.new ≡ behind (nests_of self.old) word }
+        ensures { nests_of self.new ≡ open_after (nests_of self.old) word }
     {
         match word {
             Word::Not => self.here.nots += 1,
             Word::Open => self.open(),
             Word::Close => self.close(),
-            Word::Operator(operator) => self.here = behind_operator(operator, self.here),
+            Word::Operator(operator) => self.here = after_operator(operator, self.here),
             Word::Number(_) | Word::Name(_) | Word::Here => {}
         }
     }

@@ -1,8 +1,9 @@
 ghost use Rattle.std.specs.Prelude.{◌≡◌, ◌<◌, ◌+◌, ◌^◌, ◌≤◌, IfSome};
 ghost use Rattle.sp_expr.specs.declared.word.Word.TheVariants as words;
-ghost use Rattle.sp_expr.specs.Sentence.{next, ends, is_sentence};
+ghost use Rattle.sp_expr.specs.code.Sentence.{is_operand, next, ends, is_sentence_in};
 
 use crate::arithmetic::rank_of;
+use crate::setting::Setting;
 use crate::word::{Operator, Word};
 
 /// What may follow at a place in an expression.
@@ -16,8 +17,13 @@ pub enum Place {
     After,
 }
 
-fn behind_operator(place: Place, opened: usize, operator: Operator) -> Option<(Place, usize)>
-    ensures { result ≡ next place opened (words.Operator operator) }
+fn after_operator(
+    setting: Setting,
+    place: Place,
+    opened: usize,
+    operator: Operator,
+) -> Option<(Place, usize)>
+    ensures { result ≡ next setting place opened (words.Operator operator) }
 {
     let rank = rank_of(operator);
     match place {
@@ -28,20 +34,31 @@ fn behind_operator(place: Place, opened: usize, operator: Operator) -> Option<(P
     }
 }
 
-/// The place behind a word, and how many parentheses are opened there.
-fn next(place: Place, opened: usize, word: Word) -> Option<(Place, usize)>
+/// Whether a word is an operand by itself.
+fn is_operand(setting: Setting, word: Word) -> bool
+    ensures { result ≡ is_operand setting word }
+{
+    match word {
+        Word::Number(_) => true,
+        Word::Name(name) => setting.is_name(name.as_slice()),
+        Word::Here => setting.has_address(),
+        Word::Operator(_) | Word::Not | Word::Open | Word::Close => false,
+    }
+}
+
+/// The place after a word, and how many parentheses are open there.
+fn next(setting: Setting, place: Place, opened: usize, word: Word) -> Option<(Place, usize)>
     requires { opened + 1 < 2 ^ 64 }
-    ensures value { result ≡ next place opened word }
-    ensures within { IfSome result (λ behind. behind.1 ≤ opened + 1) }
+    ensures value { result ≡ next setting place opened word }
+    ensures within { IfSome result (λ after. after.1 ≤ opened + 1) }
 {
     match (word, place) {
-        (Word::Operator(operator), _) => behind_operator(place, opened, operator),
+        (Word::Operator(operator), _) => after_operator(setting, place, opened, operator),
         (Word::Close, Place::After) if 0 < opened => Some((Place::After, opened - 1)),
         (Word::Open, Place::Start | Place::Operand) => Some((Place::Start, opened + 1)),
         (Word::Not, Place::Start) => Some((Place::Start, opened)),
-        (Word::Number(_) | Word::Name(_) | Word::Here, Place::Start | Place::Operand) => {
-            Some((Place::After, opened))
-        }
+        (Word::Number(_) | Word::Name(_) | Word::Here, Place::Start | Place::Operand)
+            if is_operand(setting, word) => { Some((Place::After, opened)) }
         _ => None,
     }
 }
@@ -55,18 +72,18 @@ fn ends(place: Place, opened: usize) -> bool
     }
 }
 
-/// Whether words are an expression, however deep it nests.
-pub(crate) fn is_sentence(words: &[Word]) -> bool
-    ensures { result ≡ is_sentence words.now }
+/// Whether words are an expression of a setting, however deep it nests.
+pub(crate) fn is_sentence(setting: Setting, words: &[Word]) -> bool
+    ensures { result ≡ is_sentence_in setting words.now }
 {
     let mut place = Place::Start;
     let mut opened = 0;
     for word in words {
-        let Some(behind) = next(place, opened, *word) else {
+        let Some(after) = next(setting, place, opened, *word) else {
             return false;
         };
-        place = behind.0;
-        opened = behind.1;
+        place = after.0;
+        opened = after.1;
     }
     ends(place, opened)
 }

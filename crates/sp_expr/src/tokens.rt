@@ -1,43 +1,36 @@
 ghost use Rattle.std.specs.Prelude.{◌≡◌, IfOk};
-ghost use Rattle.sp_expr.specs.Words.{operator_named, name_word, symbol_word, character_word, word_of, words_of, AreIn};
-ghost use Rattle.sp_expr.specs.Answers.{AnswersWords};
+ghost use Rattle.sp_expr.specs.Words.{operator_word, name_word, symbol_word, character_word, word_of, words_of};
+ghost use Rattle.sp_lex.specs.Readers.{AreIn};
+ghost use Rattle.sp_expr.specs.code.Parsing.{AnswersWords};
 
 use crate::refusal::ParseRefusal;
-use crate::reserved::is_reserved;
 use crate::word::{Operator, Word};
 use sp_base::{Memory, Name};
-use sp_lex::{Token, TokenKind};
+use sp_lex::{Token, TokenKind, text_of};
+use sp_words::{NamedOperator, is_reserved, operator_named};
 use std::alloc::Global;
 
-#[tactic(auto, unfolding(crate::specs::Words::operator_named))]
-fn operator_named(name: &[u8]) -> Option<Word>
-    ensures { result ≡ operator_named name.now }
+fn operator_word(operator: NamedOperator) -> Word
+    ensures { result ≡ operator_word operator }
 {
-    if name == b"MOD".as_slice() {
-        Some(Word::Operator(Operator::Modulo))
-    } else if name == b"SHL".as_slice() {
-        Some(Word::Operator(Operator::ShiftLeft))
-    } else if name == b"SHR".as_slice() {
-        Some(Word::Operator(Operator::ShiftRight))
-    } else if name == b"NOT".as_slice() {
-        Some(Word::Not)
-    } else if name == b"AND".as_slice() {
-        Some(Word::Operator(Operator::And))
-    } else if name == b"OR".as_slice() {
-        Some(Word::Operator(Operator::Or))
-    } else if name == b"XOR".as_slice() {
-        Some(Word::Operator(Operator::Xor))
-    } else {
-        None
+    match operator {
+        NamedOperator::Mod => Word::Operator(Operator::Modulo),
+        NamedOperator::Shl => Word::Operator(Operator::ShiftLeft),
+        NamedOperator::Shr => Word::Operator(Operator::ShiftRight),
+        NamedOperator::Not => Word::Not,
+        NamedOperator::And => Word::Operator(Operator::And),
+        NamedOperator::Or => Word::Operator(Operator::Or),
+        NamedOperator::Xor => Word::Operator(Operator::Xor),
     }
 }
 
+/// The word that a name in upper case stands for, unless it is reserved for something else.
 fn name_word(name: Name) -> Option<Word>
     ensures { result ≡ name_word name }
 {
     let text = name.as_slice();
-    if let Some(word) = operator_named(text) {
-        return Some(word);
+    if let Some(operator) = operator_named(text) {
+        return Some(operator_word(operator));
     }
     if is_reserved(text) {
         None
@@ -111,7 +104,7 @@ pub(crate) fn words_of(
 {
     let mut words = Vec::with_capacity(alloc, tokens.len())?;
     for token in tokens {
-        let text = &source[token.start..token.end];
+        let text = text_of(source, *token);
         let Some(word) = word_of(alloc, token.kind, text)? else {
             return Err(ParseRefusal::Syntax);
         };

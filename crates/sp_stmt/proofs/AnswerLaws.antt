@@ -3,10 +3,11 @@ use Rattle.std.proofs.Common.{◌≡◌, ◌<◌, ◌≤◌, true, cond, List, [
 use Rattle.std.proofs.lemmas.Bool.{cases_Bool}
 use Rattle.sp_expr.specs.declared.refusal.ParseRefusal.{ParseRefusal}
 use Rattle.sp_expr.specs.declared.refusal.ParseRefusal.TheVariants.{Syntax, TooDeep, Memory}
+use Rattle.sp_expr.specs.declared.setting.Setting.TheVariants.{Statement}
 use Rattle.sp_expr.specs.declared.word.Word.{Word}
-use Rattle.sp_expr.specs.Answers.{AnswersParse}
-use Rattle.sp_expr.specs.Nesting.{nest, nests, nests_within}
-use Rattle.sp_expr.specs.Sentence.{is_sentence}
+use Rattle.sp_expr.specs.Parsing.{AnswersParse}
+use Rattle.sp_expr.specs.code.Nesting.{nest, nests, nests_within}
+use Rattle.sp_expr.specs.code.Sentence.{is_sentence}
 use Rattle.sp_expr.specs.Trees.{Tree, Spells, depth_of}
 use Rattle.sp_expr.proofs.NestingLaws.{shallow, nests_shallow}
 use Rattle.sp_expr.proofs.SentenceLaws.{spelled_is_sentence}
@@ -31,19 +32,19 @@ checked : (ws : List Word) → is_sentence ws ≡ true → checked_words (Some w
 checked ws e = ap (λ b. cond b (cond (nests_within (nests (nest 0 0) []) ws) (Ok ws) (Err TooDeep)) (Err Syntax)) e
 
 checked_ok : (ws : List Word) (t : Tree) → Spells ws t → depth_of t ≤ 64 → checked_words (Some ws) ≡ Ok ws
-checked_ok ws t h le = checked ws (spelled_is_sentence ws t h) ∙ ap (λ b. cond b (Ok ws) (Err TooDeep)) (nests_shallow ws t h le)
+checked_ok ws t h le = checked ws (spelled_is_sentence Statement ws t h) ∙ ap (λ b. cond b (Ok ws) (Err TooDeep)) (nests_shallow Statement ws t h le)
 
 checked_deep : (ws : List Word) (t : Tree) → Spells ws t → 64 < depth_of t → checked_words (Some ws) ≡ Err TooDeep
 checked_deep ws t h lt =
-    checked ws (spelled_is_sentence ws t h) ∙ elim (cases_Bool (nests_within (nests (nest 0 0) []) ws)) [
-      | inl holds ↦ absurd (omega (arith, shallow ws t h holds))
+    checked ws (spelled_is_sentence Statement ws t h) ∙ elim (cases_Bool (nests_within (nests (nest 0 0) []) ws)) [
+      | inl holds ↦ absurd (omega (arith, shallow Statement ws t h holds))
       | inr fails ↦ ap (λ b. cond b (Ok ws) (Err TooDeep)) fails
     ]
 
 checked_none : (ws : List Word) → ((t : Tree) → Spells ws t → ⊥) → checked_words (Some ws) ≡ Err Syntax
 checked_none ws none =
     elim (cases_Bool (is_sentence ws)) [
-      | inl holds ↦ absurd (let tree = sentence_is_spelled ws holds in none tree.0 tree.1)
+      | inl holds ↦ absurd (let tree = sentence_is_spelled Statement ws holds in none tree.0 tree.1)
       | inr fails ↦ ap (λ b. cond b (cond (nests_within (nests (nest 0 0) []) ws) (Ok ws) (Err TooDeep)) (Err Syntax)) fails
     ]
 

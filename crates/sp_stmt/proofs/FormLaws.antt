@@ -5,11 +5,12 @@ use Rattle.std.specs.Option.{option_map}
 use Rattle.std.proofs.lemmas.Bool.{cases_Bool}
 use Rattle.std.proofs.lemmas.List.Elements.{All-nil, All-cons, All-head}
 use Rattle.sp_lex.specs.declared.token.Token.{Token}
+use Rattle.sp_expr.specs.declared.setting.Setting.TheVariants.{Statement}
 use Rattle.sp_expr.specs.declared.refusal.ParseRefusal.{ParseRefusal}
 use Rattle.sp_expr.specs.declared.refusal.ParseRefusal.TheVariants.{Syntax, TooDeep}
 use Rattle.sp_expr.specs.declared.word.Word.{Word}
-use Rattle.sp_expr.specs.Nesting.{nest, nests, nests_within}
-use Rattle.sp_expr.specs.Sentence.{is_sentence, accepts}
+use Rattle.sp_expr.specs.code.Nesting.{nest, nests, nests_within}
+use Rattle.sp_expr.specs.code.Sentence.{is_sentence, accepts_in}
 use Rattle.sp_expr.specs.Words.{words_of}
 use Rattle.sp_expr.proofs.NestingLaws.{shallow, nests_shallow}
 use Rattle.sp_expr.proofs.SentenceLaws.{spelled_is_sentence}
@@ -42,14 +43,14 @@ same_words source tokens ws vs e h = let known = h.words in cc
 sentence_exact : (source : List ℕ) (tokens : List Token) (ws : List Word) (right within : Bool) → is_sentence ws ≡ right → nests_within (nests (nest 0 0) []) ws ≡ within → words_of source tokens ≡ Some ws
     → Exact (IsExpression source tokens) NestsWithin (cond right (cond within (Ok ws) (Err TooDeep)) (Err Syntax))
 sentence_exact source tokens ws true true sentence few e =
-    let tree = sentence_is_spelled ws sentence in
-    found ws (record { words = e; tree = tree.0; spells = tree.1 }) (tree.0, tree.1, shallow ws tree.0 tree.1 few) (λ vs h. same_words source tokens ws vs e h)
+    let tree = sentence_is_spelled Statement ws sentence in
+    found ws (record { words = e; tree = tree.0; spells = tree.1 }) (tree.0, tree.1, shallow Statement ws tree.0 tree.1 few) (λ vs h. same_words source tokens ws vs e h)
 sentence_exact source tokens ws true false sentence few e =
-    let tree = sentence_is_spelled ws sentence in
+    let tree = sentence_is_spelled Statement ws sentence in
     deep ws (record { words = e; tree = tree.0; spells = tree.1 })
-    (λ vs h s. let within = nests_shallow vs s.0 s.1 s.2 in let same = same_words source tokens ws vs e h in let both = ap (nests_within (nests (nest 0 0) [])) same in absurd cc) (λ vs h. same_words source tokens ws vs e h)
+    (λ vs h s. let within = nests_shallow Statement vs s.0 s.1 s.2 in let same = same_words source tokens ws vs e h in let both = ap (nests_within (nests (nest 0 0) [])) same in absurd cc) (λ vs h. same_words source tokens ws vs e h)
 sentence_exact source tokens ws false within sentence few e =
-    none (λ vs h. let right = spelled_is_sentence vs h.tree h.spells in let same = same_words source tokens ws vs e h in let both = ap is_sentence same in absurd cc)
+    none (λ vs h. let right = spelled_is_sentence Statement vs h.tree h.spells in let same = same_words source tokens ws vs e h in let both = ap is_sentence same in absurd cc)
 
 words_exact : (source : List ℕ) (tokens : List Token) (read : Option (List Word)) → words_of source tokens ≡ read → Exact (IsExpression source tokens) NestsWithin (checked_words read)
 words_exact source tokens None e = none (λ vs h. let known = h.words in absurd cc)
@@ -61,9 +62,9 @@ expression_exact source tokens = words_exact source tokens (words_of source toke
 
 -- no tokens are no expression
 pub no_expression : (source : List ℕ) (ws : List Word) → IsExpression source [] ws → ⊥
-unfolding words_of accepts
+unfolding words_of accepts_in
 no_expression source ws h =
-    let sentence = spelled_is_sentence ws h.tree h.spells in
+    let sentence = spelled_is_sentence Statement ws h.tree h.spells in
     let known = h.words in
     let same : ws ≡ [] = cc in
     let both = ap is_sentence same in absurd cc

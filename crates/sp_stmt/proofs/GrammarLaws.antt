@@ -7,7 +7,7 @@ use Rattle.std.proofs.lemmas.List.Elements.{All-nil}
 use Rattle.sp_lex.specs.declared.token.Token.{Token}
 use Rattle.sp_expr.specs.declared.refusal.ParseRefusal.{ParseRefusal}
 use Rattle.sp_expr.specs.declared.refusal.ParseRefusal.TheVariants.{Syntax}
-use Rattle.sp_expr.specs.Reserved.{is_reserved}
+use Rattle.sp_words.specs.code.Tables.{is_reserved}
 use Rattle.sp_stmt.specs.declared.body.Body.{Body}
 use Rattle.sp_words.specs.declared.mnemonic.Assignment.{Assignment}
 use Rattle.sp_words.specs.declared.mnemonic.Assignment.TheVariants.{Equ, Set}

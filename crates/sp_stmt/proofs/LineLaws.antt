@@ -11,7 +11,7 @@ use Rattle.sp_lex.specs.Reading.{AreLines}
 use Rattle.sp_expr.specs.declared.refusal.ParseRefusal.{ParseRefusal}
 use Rattle.sp_expr.specs.declared.refusal.ParseRefusal.TheVariants.{Syntax, TooDeep, Memory}
 use Rattle.sp_expr.specs.Words.{AreIn}
-use Rattle.sp_expr.proofs.TokenLaws.{tokens_are_in}
+use Rattle.sp_lex.proofs.TokenLemmas.{tokens_are_in}
 use Rattle.sp_stmt.specs.declared.statement.Statement.{Statement}
 use Rattle.sp_stmt.specs.code.Answers.{Answers, AnswersStatements, refusal_at}
 use Rattle.sp_stmt.specs.code.Reading.{Fault, is_statement, from_line, then_statements, statement_of, statements_from}

@@ -8,9 +8,8 @@ use Rattle.sp_lex.specs.declared.token.TokenKind.{TokenKind}
 use Rattle.sp_lex.specs.declared.token.TokenKind.TheVariants as tokens
 use Rattle.sp_lex.specs.Names.{folded}
 use Rattle.sp_expr.specs.declared.word.Word.{Word}
-use Rattle.sp_expr.specs.Reserved.{is_reserved}
-use Rattle.sp_expr.specs.Words.{operator_named, name_word, symbol_word, word_of, words_of, with_word, text_of}
-use Rattle.sp_words.specs.code.Tables.{arg_named, pair_named, stack_pair_named}
+use Rattle.sp_expr.specs.Words.{name_word, symbol_word, word_of, words_of, with_word, text_of}
+use Rattle.sp_words.specs.code.Tables.{is_reserved, operator_named, mnemonic_named, arg_named, pair_named, stack_pair_named}
 use Rattle.sp_stmt.specs.Tokens.{is_mark, is_comma, is_colon, name_in, name_at, arg_at, pair_at, stack_pair_at}
 
 -- a comma is no word of an expression
@@ -105,9 +104,9 @@ name_in_none source token name e word arg pair stack =
     }
 
 pub equ_in_none : (source : List ℕ) (token : Token) → name_at source token ≡ Some (codes "EQU") → StandsInNone source token
-unfolding operator_named is_reserved arg_named pair_named stack_pair_named
+unfolding operator_named is_reserved mnemonic_named arg_named pair_named stack_pair_named
 equ_in_none source token e = name_in_none source token (codes "EQU") e refl refl refl refl
 
 pub set_in_none : (source : List ℕ) (token : Token) → name_at source token ≡ Some (codes "SET") → StandsInNone source token
-unfolding operator_named is_reserved arg_named pair_named stack_pair_named
+unfolding operator_named is_reserved mnemonic_named arg_named pair_named stack_pair_named
 set_in_none source token e = name_in_none source token (codes "SET") e refl refl refl refl

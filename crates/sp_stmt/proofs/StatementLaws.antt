@@ -10,11 +10,12 @@ use Rattle.std.proofs.lemmas.List.Elements.{All-nil, All-cons, All-append}
 use Rattle.sp_lex.specs.declared.token.SourceLine.{SourceLine}
 use Rattle.sp_lex.specs.declared.token.Token.{Token}
 use Rattle.sp_lex.specs.Texts.{characters_of}
+use Rattle.sp_expr.specs.declared.setting.Setting.TheVariants as setting
 use Rattle.sp_expr.specs.declared.refusal.ParseRefusal.{ParseRefusal}
 use Rattle.sp_expr.specs.declared.refusal.ParseRefusal.TheVariants.{Syntax, TooDeep}
 use Rattle.sp_expr.specs.declared.word.Word.{Word}
-use Rattle.sp_expr.specs.Nesting.{nest, nests, nests_within}
-use Rattle.sp_expr.specs.Sentence.{is_sentence}
+use Rattle.sp_expr.specs.code.Nesting.{nest, nests, nests_within}
+use Rattle.sp_expr.specs.code.Sentence.{is_sentence}
 use Rattle.sp_expr.specs.Words.{words_of, text_of}
 use Rattle.sp_expr.proofs.TreeLaws.{sentence_is_spelled}
 use Rattle.sp_base.specs.declared.pair.Pair.{Pair}
@@ -56,7 +57,7 @@ use Rattle.sp_stmt.specs.Tokens.{name_at, arg_at, pair_at, stack_pair_at, mnemon
 
 -- words that are answered as an expression have a tree
 checked_by : (ws : List Word) (right within : Bool) → is_sentence ws ≡ right → IfOk (cond right (cond within (Ok ws) (Err TooDeep)) (Err Syntax)) HaveTree
-checked_by ws true true e = sentence_is_spelled ws e
+checked_by ws true true e = sentence_is_spelled setting.Statement ws e
 checked_by ws true false e = tt
 checked_by ws false within e = tt
 

@@ -6,7 +6,7 @@ use Rattle.sp_lex.specs.declared.token.Token.{Token}
 use Rattle.sp_lex.specs.declared.token.TokenKind.TheVariants as token
 use Rattle.sp_lex.specs.Texts.{characters_of}
 use Rattle.sp_expr.specs.declared.word.Word.{Word}
-use Rattle.sp_expr.specs.Reserved.{is_reserved}
+use Rattle.sp_words.specs.code.Tables.{is_reserved}
 use Rattle.sp_expr.specs.Trees.{Tree, Spells, depth_of}
 use Rattle.sp_expr.specs.Words.{words_of, text_of}
 use Rattle.sp_isa.specs.declared.instr.Instr.{Instr}

@@ -7,7 +7,7 @@ use Rattle.sp_lex.specs.declared.token.Token.{Token}
 use Rattle.sp_lex.specs.declared.token.TokenKind.{TokenKind}
 use Rattle.sp_lex.specs.declared.token.TokenKind.TheVariants as tokens
 use Rattle.sp_lex.specs.Names.{folded}
-use Rattle.sp_expr.specs.Reserved.{is_reserved}
+use Rattle.sp_words.specs.code.Tables.{is_reserved}
 use Rattle.sp_expr.specs.Words.{text_of}
 use Rattle.sp_isa.specs.declared.instr.Arg.{Arg}
 use Rattle.sp_isa.specs.declared.instr.StackPair.{StackPair}

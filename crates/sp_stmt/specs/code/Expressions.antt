@@ -4,8 +4,8 @@ use Rattle.sp_lex.specs.declared.token.Token.{Token}
 use Rattle.sp_expr.specs.declared.refusal.ParseRefusal.{ParseRefusal}
 use Rattle.sp_expr.specs.declared.refusal.ParseRefusal.TheVariants.{Syntax, TooDeep}
 use Rattle.sp_expr.specs.declared.word.Word.{Word}
-use Rattle.sp_expr.specs.Nesting.{nest, nests, nests_within}
-use Rattle.sp_expr.specs.Sentence.{is_sentence}
+use Rattle.sp_expr.specs.code.Nesting.{nest, nests, nests_within}
+use Rattle.sp_expr.specs.code.Sentence.{is_sentence}
 use Rattle.sp_expr.specs.Words.{words_of}
 use Rattle.sp_words.specs.declared.mnemonic.ExpressionKind.{ExpressionKind}
 use Rattle.sp_words.specs.declared.mnemonic.ExpressionKind.TheVariants as kind

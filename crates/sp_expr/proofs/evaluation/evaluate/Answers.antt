@@ -2,8 +2,8 @@ use Rattle.std.proofs.Common.{sym, ap, ◌∙◌}
 use Rattle.std.specs.Prelude.{nat_eq}
 use Rattle.std.specs.Cmp.Lexicographic.{pointwise}
 use Rattle.indexmap.specs.IndexMap.{get}
-use Rattle.sp_expr.specs.States.{view}
-use Rattle.sp_expr.specs.Evaluation.{finished}
+use Rattle.sp_expr.specs.code.States.{view}
+use Rattle.sp_expr.specs.code.Evaluation.{finished}
 use Rattle.sp_expr.proofs.RunLaws.{fits-next, fits-more, run-more, run-all}
 use Rattle.sp_expr.proofs.evaluation.evaluate.Goals as goal
 

@@ -2,8 +2,8 @@ use Rattle.std.proofs.Common.{◌≡◌, true, length, drop}
 use Rattle.std.specs.Prelude.{nat_eq}
 use Rattle.std.specs.Cmp.Lexicographic.{pointwise}
 use Rattle.indexmap.specs.IndexMap.{get}
-use Rattle.sp_expr.specs.Evaluation.{run, start, fits}
-use Rattle.sp_expr.specs.States.{view}
+use Rattle.sp_expr.specs.code.Evaluation.{run, start, fits}
+use Rattle.sp_expr.specs.code.States.{view}
 use Rattle.sp_expr.proofs.evaluation.evaluate.Given as goal
 
 abbrev pub invariant-loop-word : goal.invariant-loop-word

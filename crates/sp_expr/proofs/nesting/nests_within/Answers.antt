@@ -1,5 +1,5 @@
 use Rattle.std.proofs.Common.{sym, ◌∙◌}
-use Rattle.sp_expr.specs.States.{nests_of}
+use Rattle.sp_expr.specs.code.States.{nests_of}
 use Rattle.sp_expr.proofs.ScanLaws.{nests_within-more, nests_within-not, nests_within-all}
 use Rattle.sp_expr.proofs.nesting.nests_within.Goals as goal
 

@@ -1,6 +1,6 @@
 use Rattle.std.proofs.Common.{◌≡◌, [], drop}
-use Rattle.sp_expr.specs.Nesting.{nests, nest, nests_within}
-use Rattle.sp_expr.specs.States.{nests_of}
+use Rattle.sp_expr.specs.code.Nesting.{nests, nest, nests_within}
+use Rattle.sp_expr.specs.code.States.{nests_of}
 use Rattle.sp_expr.proofs.nesting.nests_within.Given as goal
 
 abbrev pub invariant-loop-word : goal.invariant-loop-word

@@ -2,7 +2,7 @@ use Rattle.std.proofs.Common.{◌+◌, drop, sym, ap, ◌∙◌}
 use Rattle.sp_lex.specs.declared.token.Token.{Token}
 use Rattle.sp_lex.specs.declared.token.TokenKind.TheVariants as tokens
 use Rattle.sp_expr.specs.Words.{words_of}
-use Rattle.sp_expr.proofs.WordLaws.{behind, behind-more, behind-not, behind-all}
+use Rattle.sp_expr.proofs.WordLaws.{after, after-more, after-not, after-all}
 use Rattle.sp_expr.proofs.tokens.words_of.Goals as goal
 
 abbrev blank : Token
@@ -10,15 +10,15 @@ blank = record { kind = tokens.Name; start = 0; end = 0 }
 
 pub returns-in_default : goal.returns-in_default
 returns-in_default c =
-    let found = c.in_ok-word.ensures in
-    sym c.loop-token.invariant ∙ behind-not c.args.source.now c.args.tokens.now c.loop-token.token-index blank c.loop-token.words.items c.loop-token-test.true (sym c.in_default.is ∙ found)
+    let found = rw c.text_of-text.ensures at c.in_ok-word.ensures in
+    sym c.loop-token.invariant ∙ after-not c.args.source.now c.args.tokens.now c.loop-token.token-index blank c.loop-token.words.items c.loop-token-test.true (sym c.in_default.is ∙ found)
 
 pub loop-token-preserved : goal.loop-token-preserved
 loop-token-preserved c =
-    let found = c.in_ok-word.ensures in
-    ap (λ ws. behind ws (words_of c.args.source.now (drop (c.loop-token.token-index + 1) c.args.tokens.now))) c.in_ok-push.ensures.items
-    ∙ behind-more c.args.source.now c.args.tokens.now c.loop-token.token-index blank c.loop-token.words.items c.in-Some.word c.loop-token-test.true (sym c.in-Some.is ∙ found)
+    let found = rw c.text_of-text.ensures at c.in_ok-word.ensures in
+    ap (λ ws. after ws (words_of c.args.source.now (drop (c.loop-token.token-index + 1) c.args.tokens.now))) c.in_ok-push.ensures.items
+    ∙ after-more c.args.source.now c.args.tokens.now c.loop-token.token-index blank c.loop-token.words.items c.in-Some.word c.loop-token-test.true (sym c.in-Some.is ∙ found)
     ∙ c.loop-token.invariant
 
 pub returns : goal.returns
-returns c = sym c.loop-token.invariant ∙ behind-all c.args.source.now c.args.tokens.now c.loop-token.token-index c.loop-token.words.items c.loop-token-test.false
+returns c = sym c.loop-token.invariant ∙ after-all c.args.source.now c.args.tokens.now c.loop-token.token-index c.loop-token.words.items c.loop-token-test.false

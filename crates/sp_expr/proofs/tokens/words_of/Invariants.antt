@@ -1,7 +1,7 @@
 use Rattle.std.proofs.Common.{◌≡◌, drop}
 use Rattle.sp_expr.specs.Words.{words_of}
-use Rattle.sp_expr.proofs.WordLaws.{behind}
+use Rattle.sp_expr.proofs.WordLaws.{after}
 use Rattle.sp_expr.proofs.tokens.words_of.Given as goal
 
 abbrev pub invariant-loop-token : goal.invariant-loop-token
-invariant-loop-token l = behind l.words.items (words_of l.source (drop l.token-index l.tokens)) ≡ words_of l.source l.tokens
+invariant-loop-token l = after l.words.items (words_of l.source (drop l.token-index l.tokens)) ≡ words_of l.source l.tokens

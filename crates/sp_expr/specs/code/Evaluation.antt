@@ -4,7 +4,7 @@ use Rattle.sp_expr.specs.declared.word.Operator.{Operator}
 use Rattle.sp_expr.specs.declared.word.Word.{Word}
 use Rattle.sp_expr.specs.declared.word.Word.TheVariants as words
 use Rattle.sp_expr.specs.declared.level.Level.{Level}
-use Rattle.sp_expr.specs.Level.{empty, value_with, behind_operator, behind_sign, behind_not}
+use Rattle.sp_expr.specs.code.Level.{empty, value_with, after_operator, after_sign, after_not}
 
 -- what waits between the parentheses here and outside them, the last operand, and whether an operand was the last word
 pub record State : Type 0 where
@@ -24,18 +24,18 @@ with_operand s operand = state s.level s.outer operand true
 
 abbrev pub with_operator : State → Operator → State
 with_operator s operator =
-    if s.after then state (behind_operator operator s.level s.operand) s.outer s.operand false else state (behind_sign operator s.level) s.outer s.operand false
+    if s.after then state (after_operator operator s.level s.operand) s.outer s.operand false else state (after_sign operator s.level) s.outer s.operand false
 
 abbrev pub closed : State → State
 closed s = state (slice_index_or s.outer (length s.outer - 1) empty) (take (length s.outer - 1) s.outer) (value_with s.level s.operand) true
 
--- the state behind a word
+-- the state after a word
 abbrev pub step : (List ℕ → Option ℕ) → ℕ → State → Word → State
 step names here s (words.Number n) = with_operand s (Some (n % 65536))
 step names here s (words.Name name) = with_operand s (Some (unwrap_or (names name) 0 % 65536))
 step names here s words.Here = with_operand s (Some (here % 65536))
 step names here s (words.Operator operator) = with_operator s operator
-step names here s words.Not = state (behind_not s.level) s.outer s.operand s.after
+step names here s words.Not = state (after_not s.level) s.outer s.operand s.after
 step names here s words.Open = state empty (s.outer ++ s.level ∷ []) s.operand false
 step names here s words.Close = closed s
 

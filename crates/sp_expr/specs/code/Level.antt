@@ -35,23 +35,23 @@ value_with l operand = settled l.either (both_with l operand)
 abbrev pub pending : Operator → Option ℕ → Option Pending
 pending operator left = Some (record { operator = operator; left = left })
 
--- the level behind an operator of this rank that follows an operand
-abbrev pub behind : ℕ → Operator → Level → Option ℕ → Level
-behind zero operator l operand = l
-behind (suc zero) operator l operand = level l.either l.both l.inverted l.sum (pending operator (product_with l operand))
-behind (suc (suc zero)) operator l operand = level l.either l.both l.inverted (pending operator (sum_with l operand)) None
-behind (suc (suc (suc zero))) operator l operand = l
-behind (suc (suc (suc (suc zero)))) operator l operand = level l.either (pending operator (both_with l operand)) false None None
-behind (suc (suc (suc (suc (suc rank))))) operator l operand = level (pending operator (value_with l operand)) None false None None
+-- the level after an operator of this rank that follows an operand
+abbrev pub after_rank : ℕ → Operator → Level → Option ℕ → Level
+after_rank zero operator l operand = l
+after_rank (suc zero) operator l operand = level l.either l.both l.inverted l.sum (pending operator (product_with l operand))
+after_rank (suc (suc zero)) operator l operand = level l.either l.both l.inverted (pending operator (sum_with l operand)) None
+after_rank (suc (suc (suc zero))) operator l operand = l
+after_rank (suc (suc (suc (suc zero)))) operator l operand = level l.either (pending operator (both_with l operand)) false None None
+after_rank (suc (suc (suc (suc (suc rank))))) operator l operand = level (pending operator (value_with l operand)) None false None None
 
-abbrev pub behind_operator : Operator → Level → Option ℕ → Level
-behind_operator operator l operand = behind (rank_of operator) operator l operand
+abbrev pub after_operator : Operator → Level → Option ℕ → Level
+after_operator operator l operand = after_rank (rank_of operator) operator l operand
 
-abbrev pub behind_sign : Operator → Level → Level
-behind_sign sign l = level l.either l.both l.inverted (pending sign (Some 0)) l.product
+abbrev pub after_sign : Operator → Level → Level
+after_sign sign l = level l.either l.both l.inverted (pending sign (Some 0)) l.product
 
-abbrev pub behind_not : Level → Level
-behind_not l = level l.either l.both (not l.inverted) l.sum l.product
+abbrev pub after_not : Level → Level
+after_not l = level l.either l.both (not l.inverted) l.sum l.product
 
 abbrev pub empty : Level
 empty = level None None false None None

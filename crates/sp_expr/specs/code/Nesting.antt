@@ -32,19 +32,19 @@ may_follow n (words.Number v) = true
 may_follow n (words.Name name) = true
 
 -- AND, OR and XOR end what NOT stands before
-abbrev pub behind_operator : Operator → Nest → Nest
-behind_operator operator here = if nat_lt 2 (rank_of operator) then nest here.outside 0 else here
+abbrev pub after_operator : Operator → Nest → Nest
+after_operator operator here = if nat_lt 2 (rank_of operator) then nest here.outside 0 else here
 
-abbrev pub behind : Nests → Word → Nests
-behind n words.Not = nests (nest n.here.outside (n.here.nots + 1)) n.outer
-behind n words.Open = nests (nest (n.here.outside + n.here.nots + 1) 0) (n.outer ++ n.here ∷ [])
-behind n words.Close = nests (slice_index_or n.outer (length n.outer - 1) (nest 0 0)) (take (length n.outer - 1) n.outer)
-behind n words.Here = n
-behind n (words.Operator operator) = nests (behind_operator operator n.here) n.outer
-behind n (words.Number v) = n
-behind n (words.Name name) = n
+abbrev pub open_after : Nests → Word → Nests
+open_after n words.Not = nests (nest n.here.outside (n.here.nots + 1)) n.outer
+open_after n words.Open = nests (nest (n.here.outside + n.here.nots + 1) 0) (n.outer ++ n.here ∷ [])
+open_after n words.Close = nests (slice_index_or n.outer (length n.outer - 1) (nest 0 0)) (take (length n.outer - 1) n.outer)
+open_after n words.Here = n
+open_after n (words.Operator operator) = nests (after_operator operator n.here) n.outer
+open_after n (words.Number v) = n
+open_after n (words.Name name) = n
 
 -- whether words keep to 64 nested constructs
 unfoldable pub nests_within : Nests → List Word → Bool
 nests_within n [] = true
-nests_within n (word ∷ ws) = may_follow n word && nests_within (behind n word) ws
+nests_within n (word ∷ ws) = may_follow n word && nests_within (open_after n word) ws
