@@ -5,7 +5,9 @@ ghost use Rattle.sp_stmt.specs.Tokens.{is_comma, is_colon, name_at, own_name_at,
 use sp_base::{Name, Pair};
 use sp_isa::{Arg, StackPair};
 use sp_lex::{Token, TokenKind};
-use sp_words::{Assignment, Mnemonic, arg_named, is_reserved, mnemonic_named, pair_named, stack_pair_named};
+use sp_words::{
+    Assignment, Mnemonic, arg_named, is_reserved, mnemonic_named, pair_named, stack_pair_named,
+};
 
 /// The bytes of a token.
 pub(crate) fn text_of(source: &[u8], token: Token) -> &[u8]
