@@ -1,6 +1,10 @@
 pub mod EnvironmentLemmas
+pub mod FindLemmas
 pub mod FreeLemmas
 pub mod MemoryLemmas
 pub mod ReplaceLemmas
+pub mod ShapeEqualityLemmas
+pub mod ShapeLemmas
 pub mod SortLemmas
+pub mod TableLemmas
 pub mod VarLemmas

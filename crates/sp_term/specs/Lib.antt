@@ -1,5 +1,7 @@
 pub mod Admissible
+pub mod Conditions
 pub mod Free
+pub mod Pools
 pub mod Sorts
 pub mod Terms
 pub mod Tree
