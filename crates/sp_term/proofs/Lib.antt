@@ -1,3 +1,4 @@
+pub mod AddingLemmas
 pub mod EnvironmentLemmas
 pub mod FindLemmas
 pub mod FreeLemmas

@@ -25,6 +25,7 @@ ghost use Rattle.sp_term.specs.Tree.{
 ghost use Rattle.sp_term.specs.Sorts.{Sort, HasSort, sort_of};
 ghost use Rattle.sp_term.specs.Free.{is_free, IsClosed, replaced};
 ghost use Rattle.sp_term.specs.Value.{Env, value, whole, bind, assigned, int_of, map_of, IsTrueIn};
+ghost use Rattle.sp_term.specs.Pools.{IsDistinct, IsAdded};
 ghost use Rattle.sp_term.specs.Admissible.{Region, Change, IsAdmissible, zeros};
 
 /// A tree is a term of one sort at most.
@@ -92,4 +93,10 @@ pub fn environments_are_admissible()
         e.int (var.Now loc.Cy) ≢ pos 2 }
     ensures stack { (image : ImageMap) (region : Region) (changes : List Change) (e : Env) (a : ℕ) → IsAdmissible image region changes e →
         region.first ≤ a → a ≤ region.last → e.map var.Mem (pos a) ≡ pos 0 }
+{}
+
+/// A tree that is added to a list without doubles has one place, and leaves one list.
+pub fn adding_has_one_answer()
+    ensures { (old one other : List Tree) (t : Tree) (m n : ℕ) → IsDistinct old → IsAdded old t one m → IsAdded old t other n →
+        (one ≡ other) × (m ≡ n) }
 {}

@@ -11,9 +11,9 @@ mod var;
 
 pub use cond::{Cond, MemFrame};
 pub use laws::{
-    a_term_has_one_sort, environments_are_admissible, memories_change_in_one_place,
-    nodes_and_depths_are_counted, quantifiers_bind_in_their_formulas, replacing_is_assigning,
-    replacing_keeps_terms, values_depend_on_free_variables,
+    a_term_has_one_sort, adding_has_one_answer, environments_are_admissible,
+    memories_change_in_one_place, nodes_and_depths_are_counted, quantifiers_bind_in_their_formulas,
+    replacing_is_assigning, replacing_keeps_terms, values_depend_on_free_variables,
 };
 pub use pool::Pool;
 pub use shape::{Node, Shape};
