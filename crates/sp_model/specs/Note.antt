@@ -105,10 +105,10 @@ abbrev pub bound_value : Bindings → List ℕ → ℤ
 bound_value [] name = pos 0
 bound_value ((bound, n) ∷ outer) name = if bytes_eq bound name then n else bound_value outer name
 
--- the core at a moment, between the state at entry and the present one
-abbrev pub core_at : Moment → State → State → Core
-core_at Now entry now = now.core
-core_at AtEntry entry now = entry.core
+-- the core at a moment: the present one, or the one at entry
+abbrev pub core_at : Moment → Core → Core → Core
+core_at Now entry now = now
+core_at AtEntry entry now = entry
 
 abbrev pub register_pair : RegisterPair → Core → ℕ
 register_pair BC core = pair_of pair.B core
@@ -134,13 +134,13 @@ calculate BitAnd x y = byte_and x y
 calculate BitOr x y = byte_or x y
 calculate BitXor x y = byte_xor x y
 
--- the number that a quantity stands for, between the state at entry and the present one
-abbrev pub value : Frame → Bindings → Quantity → State → State → ℤ
+-- the number that a quantity stands for, between the core at entry and the present one
+abbrev pub value : Frame → Bindings → Quantity → Core → Core → ℤ
 value f b (Literal n) entry now = pos n
 value f b (Location m x) entry now = pos (at x (core_at m entry now))
 value f b (Pair m p) entry now = pos (register_pair p (core_at m entry now))
 value f b (Cell m x) entry now = shown f (core_at m entry now).cells (value f b x entry now)
-value f b (StackWord k) entry now = pos (word (stack_address f k) now.core)
+value f b (StackWord k) entry now = pos (word (stack_address f k) now)
 value f b (Total m x y) entry now = sum_between (shown f (core_at m entry now).cells) (value f b x entry now) (value f b y entry now)
 value f b (Negative x) entry now = neg_ℤ (value f b x entry now)
 value f b (Parity x) entry now = parity (value f b x entry now)
@@ -168,8 +168,8 @@ abbrev pub Quantifies : Quantifier → ℤ → ℤ → (ℤ → Type 0) → Type
 Quantifies ForAll low high P = (n : ℤ) → low ≤ℤ n → n ≤ℤ high → P n
 Quantifies ForSome low high P = (n : ℤ) × (low ≤ℤ n) × (n ≤ℤ high) × P n
 
--- a note is true at the present state, with these numbers for the bound names
-abbrev pub HoldsWith : Frame → Bindings → Note → State → State → Type 0
+-- a note is true at the present core, with these numbers for the bound names
+abbrev pub HoldsWith : Frame → Bindings → Note → Core → Core → Type 0
 HoldsWith f b (Constant truth) entry now = IsTrue truth
 HoldsWith f b (Compare c x y) entry now = Compares c (value f b x entry now) (value f b y entry now)
 HoldsWith f b (Not p) entry now = ¬ HoldsWith f b p entry now
@@ -179,7 +179,7 @@ HoldsWith f b (Quantify q name x y p) entry now =
 
 -- the annotation is true at the present state, for a run that began at the entry
 abbrev pub Holds : Frame → Note → State → State → Type 0
-Holds f note entry now = HoldsWith f [] note entry now
+Holds f note entry now = HoldsWith f [] note entry.core now.core
 
 -- ---- bound names
 
