@@ -1,0 +1,4 @@
+pub mod Evaluation
+pub mod Nodes
+pub mod Wide
+pub mod code

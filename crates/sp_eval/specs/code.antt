@@ -1,0 +1,5 @@
+pub mod Narrow
+pub mod Scope
+pub mod Setting
+pub mod Small
+pub mod Truth
