@@ -2,6 +2,7 @@
 #![tactic(auto)]
 
 mod cond;
+mod equality;
 mod laws;
 mod pool;
 mod shape;
@@ -10,6 +11,7 @@ mod term;
 mod var;
 
 pub use cond::{Cond, MemFrame};
+pub use equality::same;
 pub use laws::{
     a_term_has_one_sort, adding_has_one_answer, environments_are_admissible,
     memories_change_in_one_place, nodes_and_depths_are_counted, quantifiers_bind_in_their_formulas,
