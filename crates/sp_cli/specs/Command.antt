@@ -1,6 +1,13 @@
 -- Command lines (this project's own).
-use Rattle.std.specs.Prelude.{◌≡◌, ◌≢◌, ℕ, ⊤, List, [], ◌∷◌, Option, Some, None, IsSome, codes}
+use Rattle.std.specs.Prelude.{◌≡◌, ◌≢◌, ℕ, ⊤, List, [], ◌∷◌, Option, Some, None, IsSome, IsTrue, codes, map, string_bytes, String}
+use Rattle.std.specs.declared.alloc.Global.{Global}
+use Rattle.sp_base.specs.Files.{Store}
 use Rattle.sp_run.specs.Options.{options_of}
+use Rattle.sp_cli.specs.Inputs.{Held}
+
+-- the words of a command line
+abbrev pub words_of : List (String Global) → List (List ℕ)
+words_of words = map string_bytes words
 
 -- a command with the names of its files, and the option words of a run
 pub data Command : Type 0 where
@@ -38,3 +45,19 @@ abbrev pub image_name : Command → Option (List ℕ)
 image_name (Verify source scripts image) = Some image
 image_name (Asm source image) = Some image
 image_name (Run image options) = None
+
+-- the names of the files that a command reads, in the order in which it reads them
+abbrev pub read_names : Command → List (List ℕ)
+read_names (Verify source scripts image) = source ∷ scripts ∷ []
+read_names (Asm source image) = source ∷ []
+read_names (Run image options) = image ∷ []
+
+-- what the inputs of a command hold, where files hold this by their names
+abbrev pub held_by : (List ℕ → Option (List ℕ)) → Command → Held
+held_by files (Verify source scripts image) = record { source = files source; scripts = files scripts; image = None }
+held_by files (Asm source image) = record { source = files source; scripts = None; image = None }
+held_by files (Run image options) = record { source = None; scripts = None; image = files image }
+
+-- where the files tell what they hold, the inputs of the command hold this
+abbrev pub AreHeld : Store → Command → Held → Type 0
+AreHeld files c held = IsTrue files.told → held ≡ held_by files.contents c

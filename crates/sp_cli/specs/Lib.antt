@@ -1,12 +1,9 @@
-pub mod After
+pub mod code
 pub mod Command
-pub mod Ends
 pub mod Inputs
-pub mod Product
-pub mod Refusal
+pub mod Session
+pub mod Shim
 pub mod Space
+pub mod Stages
 pub mod Status
-pub mod Stop
-pub mod StopOf
 pub mod Texts
-pub mod Views

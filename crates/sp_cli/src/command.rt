@@ -1,9 +1,8 @@
 //! Command lines.
-ghost use Rattle.std.specs.Prelude.{◌≡◌, ◌↔◌, ℕ, List, IsTrue, IsSome, codes, MatchOption, option_map, string_bytes};
-ghost use Rattle.sp_run.specs.Options.{options_of};
+ghost use Rattle.std.specs.Prelude.{◌≡◌, ◌↔◌, ℕ, List, IsTrue, MatchOption, option_map};
 ghost use Rattle.sp_cli.specs.Command as cmd;
-ghost use Rattle.sp_cli.specs.Space.{words_of};
-ghost use Rattle.sp_cli.specs.Views.{verify_of, asm_of, run_of, command_of};
+ghost use Rattle.sp_cli.specs.Command.{words_of};
+ghost use Rattle.sp_cli.specs.code.Views.{verify_of, asm_of, run_of, command_of};
 
 /// The names of the files of `verify`.
 #[derive(Clone, Copy)]

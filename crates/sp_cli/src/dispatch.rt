@@ -1,39 +1,42 @@
 //! `space`, the call that the program makes.
-ghost use Rattle.std.specs.Prelude.{◌≡◌, ◌≢◌, ◌⊎◌, ℕ, ◌∷◌, ◌++◌, [], List, Some, IsTrue, IsErrOf, IfOk, Err, ◌≤◌};
-ghost use Rattle.sp_base.specs.Files.{Rose, AnswersWrite};
+ghost use Rattle.std.specs.Prelude.{◌≡◌, ◌≢◌, ◌⊎◌, ℕ, List, Some, IsTrue, IsErrOf, IfOk, Err, ◌≤◌};
+ghost use Rattle.sp_base.specs.Calls.{call};
+ghost use Rattle.sp_base.specs.Files.{Rose, AnswersWrite, Adds, write_outcome};
 ghost use Rattle.sp_cli.specs.Command as cmd;
-ghost use Rattle.sp_cli.specs.Refusal as refused;
-ghost use Rattle.sp_cli.specs.Views.{command_of, refusal_of};
-ghost use Rattle.sp_cli.specs.Product.{IsProduct};
-ghost use Rattle.sp_cli.specs.Space.{words_of, Took, HoldsImage, IsReport};
-ghost use Rattle.sp_cli.specs.After.{RefusedAs, DoneAs, ImageAfter, SinkAfter, IsDone, IsRefused, IsWriteFault, SinkAfterWords};
+ghost use Rattle.sp_cli.specs.Command.{words_of, HasForm, AreHeld, held_by, read_names};
+ghost use Rattle.sp_cli.specs.Inputs.{Held};
+ghost use Rattle.sp_cli.specs.Session.{AddsSession};
+ghost use Rattle.sp_cli.specs.Space.{Took, HoldsImage, Ends, IsAcceptedBy, ImageAfter, SinkAfter, SinkAfterUsage};
+ghost use Rattle.sp_cli.specs.Stages.{Stands, Accepts};
 ghost use Rattle.sp_cli.specs.Texts.{usage_text};
+ghost use Rattle.sp_cli.specs.code.Made.{IsProduct, IsRefusal, OnlyRead, AddsReads, AddsWrite};
+ghost use Rattle.sp_cli.specs.code.After.{After};
+ghost use Rattle.sp_cli.specs.code.Views.{command_of};
 
 use crate::Status;
-use crate::assembly::assembled;
+use crate::asm::assemble_input;
 use crate::command::{Command, command_of};
-use crate::print::{Product, finish, refuse};
+use crate::product::Product;
+use crate::put::{finish, refuse};
 use crate::refusal::Stop;
-use crate::simulation::ran;
-use crate::verification::verified;
+use crate::run::run_input;
+use crate::verify::verify_inputs;
 use sp_base::{Files, Sink, WriteRefusal};
 use std::alloc::Global;
 
 /// What a command makes of the files that it reads. None of them changes.
 fn produce<F: Files>(alloc: Global, files: &mut F, command: Command<'_>) -> Result<Product, Stop>
     requires { cmd.HasOptions (command_of command) }
-    ensures ok { IfOk result (IsProduct (F.tells files.old) (F.contents files.old) (command_of command.entry)) }
-    ensures refused { (r : _) → result ≡ Err (Stop.Refused r) → IsTrue (F.tells files.old) → refused.Stands (F.contents files.old) (command_of command.entry) (refusal_of r) }
-    ensures fault { IsErrOf result Stop.Fault → Rose (F.read_faults files.old) (F.read_faults files.new) }
-    ensures files { (q : List ℕ) → F.contents files.new q ≡ F.contents files.old q }
-    ensures told { F.tells files.new ≡ F.tells files.old }
-    ensures reads { F.read_faults files.old ≤ F.read_faults files.new }
-    ensures writes { F.write_faults files.new ≡ F.write_faults files.old }
+    ensures ok { IfOk result (IsProduct (F.store files.old) (command_of command.entry)) }
+    ensures refused { (r : _) → result ≡ Err (Stop.Refused r) → IsRefusal (F.store files.old) (command_of command.entry) r }
+    ensures fault { IsErrOf result Stop.Fault → Rose (F.store files.old).read_faults (F.store files.new).read_faults }
+    ensures kept { OnlyRead (F.store files.old) (F.store files.new) }
+    ensures calls { AddsReads (read_names (command_of command.entry)) result (F.store files.old).calls (F.store files.new).calls }
 {
     match command {
-        Command::Verify(names) => verified(alloc, files, names),
-        Command::Asm(names) => assembled(alloc, files, names),
-        Command::Run(names) => ran(alloc, files, names),
+        Command::Verify(names) => verify_inputs(alloc, files, names),
+        Command::Asm(names) => assemble_input(alloc, files, names),
+        Command::Run(names) => run_input(alloc, files, names),
     }
 }
 
@@ -43,12 +46,14 @@ fn write_image<F: Files>(
     command: Command<'_>,
     text: &[u8],
 ) -> Result<(), WriteRefusal>
-    ensures answer { (name : List ℕ) → cmd.image_name (command_of command.entry) ≡ Some name → IsTrue (F.tells files.old) → AnswersWrite (F.contents files.old name) text.now result (F.contents files.new name) }
-    ensures others { (q : List ℕ) → cmd.image_name (command_of command.entry) ≢ Some q → F.contents files.new q ≡ F.contents files.old q }
-    ensures told { F.tells files.new ≡ F.tells files.old }
-    ensures failed { IsErrOf result WriteRefusal.Failed → Rose (F.write_faults files.old) (F.write_faults files.new) }
-    ensures later { F.write_faults files.old ≤ F.write_faults files.new }
-    ensures reads { F.read_faults files.new ≡ F.read_faults files.old }
+    ensures answer { (name : List ℕ) → cmd.image_name (command_of command.entry) ≡ Some name → IsTrue (F.store files.old).told
+        → AnswersWrite ((F.store files.old).contents name) text.now result ((F.store files.new).contents name) }
+    ensures others { (q : List ℕ) → cmd.image_name (command_of command.entry) ≢ Some q → (F.store files.new).contents q ≡ (F.store files.old).contents q }
+    ensures told { (F.store files.new).told ≡ (F.store files.old).told }
+    ensures failed { IsErrOf result WriteRefusal.Failed → Rose (F.store files.old).write_faults (F.store files.new).write_faults }
+    ensures later { (F.store files.old).write_faults ≤ (F.store files.new).write_faults }
+    ensures reads { (F.store files.new).read_faults ≡ (F.store files.old).read_faults }
+    ensures calls { AddsWrite (cmd.image_name (command_of command.entry)) result (F.store files.old).calls (F.store files.new).calls }
 {
     match command.image_name() {
         Some(name) => files.write(name, text),
@@ -65,18 +70,14 @@ fn execute<F: Files, S: Sink>(
     command: Command<'_>,
 ) -> Status
     requires { cmd.HasOptions (command_of command) }
-    ensures usage { result ≢ Status.Usage }
-    ensures too_long { result ≢ Status.TooLong }
-    ensures read_fault { result ≡ Status.ReadFault → Rose (F.read_faults files.old) (F.read_faults files.new) }
-    ensures refused { result ≡ Status.Refused → RefusedAs (command_of command.entry) (F.tells files.old) (F.contents files.old) (S.tells out.old) (S.taken out.old) (S.taken out.new) }
-    ensures write_fault { result ≡ Status.WriteFault → Rose (F.write_faults files.old) (F.write_faults files.new) × (IsTrue (F.tells files.old) → refused.Accepts (F.contents files.old) (command_of command.entry)) }
-    ensures sink_fault { result ≡ Status.SinkFault → Rose (S.faults out.old) (S.faults out.new) }
-    ensures done { result ≡ Status.Done → DoneAs (command_of command.entry) (F.tells files.old) (F.contents files.old) (S.tells out.old) (S.taken out.old) (S.taken out.new) }
-    ensures image { (name : List ℕ) → cmd.image_name (command_of command.entry) ≡ Some name → IsTrue (F.tells files.old) → ImageAfter result (F.contents files.old) (command_of command.entry) name (F.contents files.new name) }
-    ensures others { (q : List ℕ) → cmd.image_name (command_of command.entry) ≢ Some q → F.contents files.new q ≡ F.contents files.old q }
-    ensures sink { IsTrue (S.tells out.old) → SinkAfter result (F.tells files.old) (F.contents files.old) (command_of command.entry) (S.taken out.old) (S.taken out.new) }
-    ensures files_told { F.tells files.new ≡ F.tells files.old }
-    ensures sink_told { S.tells out.new ≡ S.tells out.old }
+    ensures after { After (command_of command.entry) result (F.store files.old) (F.store files.new) (S.output out.old) (S.output out.new) }
+    ensures read_fault { result ≡ Status.ReadFault → Rose (F.store files.old).read_faults (F.store files.new).read_faults }
+    ensures write_fault { result ≡ Status.WriteFault → Rose (F.store files.old).write_faults (F.store files.new).write_faults }
+    ensures sink_fault { result ≡ Status.SinkFault → Rose (S.output out.old).faults (S.output out.new).faults }
+    ensures others { (q : List ℕ) → cmd.image_name (command_of command.entry) ≢ Some q → (F.store files.new).contents q ≡ (F.store files.old).contents q }
+    ensures files_told { (F.store files.new).told ≡ (F.store files.old).told }
+    ensures sink_told { (S.output out.new).told ≡ (S.output out.old).told }
+    ensures calls { AddsSession (command_of command.entry) result (F.store files.old).calls (F.store files.new).calls }
 {
     let product = match produce(alloc, files, command) {
         Ok(product) => product,
@@ -100,35 +101,42 @@ pub fn space<F: Files, S: Sink>(
 ) -> Status
     // Where `verify` accepts, the image that it writes is the source's assembly, every run from an entry of a routine
     // is good, and no other image is right. The source is what its file held when the call began.
-    ensures headline { result ≡ Status.Done → IsTrue (F.tells files.old) → (source scripts image : List ℕ)
-        → cmd.HasForm (words_of words.now) (cmd.Verify source scripts image)
-        → HoldsImage (F.contents files.old) (cmd.Verify source scripts image) (F.contents files.new image) }
+    ensures headline { result ≡ Status.Done → IsTrue (F.store files.old).told → (source scripts image : List ℕ)
+        → HasForm (words_of words.now) (cmd.Verify source scripts image)
+        → HoldsImage (cmd.Verify source scripts image) (held_by (F.store files.old).contents (cmd.Verify source scripts image)) ((F.store files.new).contents image) }
 
     // When each status comes. `Memory` alone is free.
-    ensures done { result ≡ Status.Done → IsDone (words_of words.now) (F.tells files.old) (F.contents files.old) (S.tells out.old) (S.taken out.old) (S.taken out.new) }
-    ensures refused { result ≡ Status.Refused → IsRefused (words_of words.now) (F.tells files.old) (F.contents files.old) (S.tells out.old) (S.taken out.old) (S.taken out.new) }
-    ensures usage { result ≡ Status.Usage → cmd.HasNoForm (words_of words.now) × Took (S.tells out.old) (S.taken out.old) (S.taken out.new) usage_text }
-    ensures read_fault { result ≡ Status.ReadFault → cmd.HasSomeForm (words_of words.now) × Rose (F.read_faults files.old) (F.read_faults files.new) }
-    ensures write_fault { result ≡ Status.WriteFault → IsWriteFault (words_of words.now) (F.tells files.old) (F.contents files.old) × Rose (F.write_faults files.old) (F.write_faults files.new) }
-    ensures sink_fault { result ≡ Status.SinkFault → Rose (S.faults out.old) (S.faults out.new) }
-    ensures too_long { result ≢ Status.TooLong }
+    ensures done { result ≡ Status.Done → Ends Status.Done (words_of words.now) (F.store files.old) (S.output out.old) (S.output out.new) }
+    ensures refused { result ≡ Status.Refused → Ends Status.Refused (words_of words.now) (F.store files.old) (S.output out.old) (S.output out.new) }
+    ensures too_long { result ≡ Status.TooLong → Ends Status.TooLong (words_of words.now) (F.store files.old) (S.output out.old) (S.output out.new) }
+    ensures usage { result ≡ Status.Usage → cmd.HasNoForm (words_of words.now) × Took (S.output out.old) (S.output out.new) usage_text }
+    ensures read_fault { result ≡ Status.ReadFault → cmd.HasSomeForm (words_of words.now) × Rose (F.store files.old).read_faults (F.store files.new).read_faults }
+    ensures write_fault { result ≡ Status.WriteFault → IsAcceptedBy (words_of words.now) (F.store files.old) × Rose (F.store files.old).write_faults (F.store files.new).write_faults }
+    ensures sink_fault { result ≡ Status.SinkFault → Rose (S.output out.old).faults (S.output out.new).faults }
 
     // Nothing else is answered where no count of faults rose.
-    ensures complete { (c : cmd.Command) → cmd.HasForm (words_of words.now) c → IsTrue (F.tells files.old) → refused.Accepts (F.contents files.old) c
-        → ¬ Rose (F.read_faults files.old) (F.read_faults files.new) → ¬ Rose (F.write_faults files.old) (F.write_faults files.new) → ¬ Rose (S.faults out.old) (S.faults out.new)
-        → (result ≡ Status.Done) ⊎ (result ≡ Status.Memory) }
-    ensures complete_refused { (c : cmd.Command) (r : refused.Refusal) → cmd.HasForm (words_of words.now) c → IsTrue (F.tells files.old) → refused.Stands (F.contents files.old) c r
-        → ¬ Rose (F.read_faults files.old) (F.read_faults files.new) → ¬ Rose (S.faults out.old) (S.faults out.new)
+    ensures complete { (c : cmd.Command) → HasForm (words_of words.now) c → IsTrue (F.store files.old).told → Accepts c (held_by (F.store files.old).contents c)
+        → ¬ Rose (F.store files.old).read_faults (F.store files.new).read_faults → ¬ Rose (F.store files.old).write_faults (F.store files.new).write_faults
+        → ¬ Rose (S.output out.old).faults (S.output out.new).faults → (result ≡ Status.Done) ⊎ (result ≡ Status.Memory) }
+    ensures complete_refused { (c : cmd.Command) (r : _) → HasForm (words_of words.now) c → IsTrue (F.store files.old).told → Stands c (held_by (F.store files.old).contents c) r
+        → ¬ Rose (F.store files.old).read_faults (F.store files.new).read_faults → ¬ Rose (S.output out.old).faults (S.output out.new).faults
         → (result ≡ Status.Refused) ⊎ (result ≡ Status.Memory) }
-    ensures complete_usage { cmd.HasNoForm (words_of words.now) → ¬ Rose (S.faults out.old) (S.faults out.new) → (result ≡ Status.Usage) ⊎ (result ≡ Status.Memory) }
+    ensures complete_usage { cmd.HasNoForm (words_of words.now) → ¬ Rose (S.output out.old).faults (S.output out.new).faults → (result ≡ Status.Usage) ⊎ (result ≡ Status.Memory) }
 
     // What the files hold afterwards, and what the sink took.
-    ensures image { (c : cmd.Command) (name : List ℕ) → cmd.HasForm (words_of words.now) c → cmd.image_name c ≡ Some name → IsTrue (F.tells files.old)
-        → ImageAfter result (F.contents files.old) c name (F.contents files.new name) }
-    ensures others { (q : List ℕ) → ((c : cmd.Command) → cmd.HasForm (words_of words.now) c → cmd.image_name c ≢ Some q) → F.contents files.new q ≡ F.contents files.old q }
-    ensures sink { IsTrue (S.tells out.old) → SinkAfterWords result (words_of words.now) (F.tells files.old) (F.contents files.old) (S.taken out.old) (S.taken out.new) }
-    ensures files_told { F.tells files.new ≡ F.tells files.old }
-    ensures sink_told { S.tells out.new ≡ S.tells out.old }
+    ensures image { (c : cmd.Command) (name : List ℕ) → HasForm (words_of words.now) c → cmd.image_name c ≡ Some name → IsTrue (F.store files.old).told
+        → ImageAfter result c (held_by (F.store files.old).contents c) ((F.store files.old).contents name) ((F.store files.new).contents name) }
+    ensures others { (q : List ℕ) → ((c : cmd.Command) → HasForm (words_of words.now) c → cmd.image_name c ≢ Some q) → (F.store files.new).contents q ≡ (F.store files.old).contents q }
+    ensures sink { (c : cmd.Command) → HasForm (words_of words.now) c → IsTrue (S.output out.old).told
+        → (held : Held) × AreHeld (F.store files.old) c held × SinkAfter result c held (S.output out.old) (S.output out.new) }
+    ensures sink_usage { cmd.HasNoForm (words_of words.now) → IsTrue (S.output out.old).told → SinkAfterUsage result (S.output out.old) (S.output out.new) }
+    ensures files_told { (F.store files.new).told ≡ (F.store files.old).told }
+    ensures sink_told { (S.output out.new).told ≡ (S.output out.old).told }
+
+    // Which calls on files are made: a command reads exactly its inputs, in their order, none after the first that isn't
+    // given, and writes its image at most once. No other name is read or written.
+    ensures calls { (c : cmd.Command) → HasForm (words_of words.now) c → AddsSession c result (F.store files.old).calls (F.store files.new).calls }
+    ensures no_calls { cmd.HasNoForm (words_of words.now) → (F.store files.new).calls ≡ (F.store files.old).calls }
 {
     match command_of(words) {
         Some(command) => execute(alloc, files, out, command),

@@ -1,9 +1,8 @@
 //! Reading the files that a command takes as inputs.
-ghost use Rattle.std.specs.Prelude.{◌≡◌, ℕ, List, IsTrue, IsErrOf, IfOk, Err, ◌≤◌, vec_len};
+ghost use Rattle.std.specs.Prelude.{◌≡◌, ◌∷◌, [], Some, IsTrue, IsErrOf, IfOk, Err, ◌≤◌, vec_len};
 ghost use Rattle.sp_base.specs.Files.{Rose};
-ghost use Rattle.sp_cli.specs.Inputs.{limit, IsInput};
-ghost use Rattle.sp_cli.specs.Stop.{RefusesInput};
-ghost use Rattle.sp_cli.specs.Views.{input_of, refusal_of};
+ghost use Rattle.sp_cli.specs.Inputs.{limit, RefusesFile};
+ghost use Rattle.sp_cli.specs.code.Made.{IsFile, OnlyRead, AddsReads};
 
 use crate::refusal::{Input, Refusal, Stop};
 use sp_base::{Files, ReadRefusal};
@@ -19,7 +18,7 @@ const SCRIPTS_LIMIT: usize = 4_194_304;
 const IMAGE_LIMIT: usize = 1_048_576;
 
 fn limit(input: Input) -> usize
-    ensures { result ≡ limit (input_of input) }
+    ensures { result ≡ limit input }
 {
     match input {
         Input::Source => SOURCE_LIMIT,
@@ -35,14 +34,13 @@ pub fn read_input<F: Files>(
     input: Input,
     name: &str,
 ) -> Result<Vec<u8>, Stop>
-    ensures ok { IfOk result (λ bytes. IsTrue (F.tells files.old) → IsInput (F.contents files.old) (input_of input) name.now bytes.items) }
-    ensures within { IfOk result (λ bytes. vec_len bytes ≤ limit (input_of input)) }
-    ensures fault { IsErrOf result Stop.Fault → Rose (F.read_faults files.old) (F.read_faults files.new) }
-    ensures refused { (r : _) → result ≡ Err (Stop.Refused r) → RefusesInput (input_of input) (F.tells files.old) (F.contents files.old) name.now (refusal_of r) }
-    ensures files { (q : List ℕ) → F.contents files.new q ≡ F.contents files.old q }
-    ensures told { F.tells files.new ≡ F.tells files.old }
-    ensures reads { F.read_faults files.old ≤ F.read_faults files.new }
-    ensures writes { F.write_faults files.new ≡ F.write_faults files.old }
+    ensures ok { IfOk result (λ bytes. IsTrue (F.store files.old).told → (F.store files.old).contents name.now ≡ Some bytes.items) }
+    ensures within { IfOk result (λ bytes. vec_len bytes ≤ limit input) }
+    ensures refused { (r : _) → result ≡ Err (Stop.Refused r)
+        → IsFile (IsTrue (F.store files.old).told) ((F.store files.old).contents name.now) (λ file. RefusesFile input file r) }
+    ensures fault { IsErrOf result Stop.Fault → Rose (F.store files.old).read_faults (F.store files.new).read_faults }
+    ensures kept { OnlyRead (F.store files.old) (F.store files.new) }
+    ensures calls { AddsReads (name.now ∷ []) result (F.store files.old).calls (F.store files.new).calls }
 {
     match files.read(alloc, name, limit(input)) {
         Ok(bytes) => Ok(bytes),

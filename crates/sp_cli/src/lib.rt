@@ -1,17 +1,18 @@
 //! The command line: each command is a call of `space`, over files and a sink that the caller brings.
 #![tactic(auto)]
 
-mod assembly;
+mod asm;
 mod command;
 mod dispatch;
 mod inputs;
 mod laws;
-mod print;
+mod product;
+mod put;
 mod refusal;
-mod simulation;
+mod run;
 mod status;
 mod texts;
-mod verification;
+mod verify;
 
 pub use dispatch::space;
 pub use laws::a_command_has_one_refusal;

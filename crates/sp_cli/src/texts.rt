@@ -1,18 +1,16 @@
 //! The texts that commands print.
 ghost use Rattle.std.specs.Prelude.{◌≡◌, ◌∷◌, ◌++◌, [], IfOk, OnOk, codes, decimal};
-ghost use Rattle.sp_cli.specs.Refusal as refused;
-ghost use Rattle.sp_cli.specs.Views.{input_of, image_kind_of, refusal_of};
-ghost use Rattle.sp_cli.specs.Texts.{input_text, text_kind, asm_kind, image_kind, refusal_text, report_text, assembled_text};
+ghost use Rattle.sp_cli.specs.Texts.{input_name, text_kind, asm_kind, image_kind, refusal_text, accepted_text, assembled_text};
 
-use crate::refusal::{ImageKind, Input, Refusal};
+use crate::refusal::{HexKind, Input, Refusal};
 use sp_asm::AsmKind;
 use sp_base::{Line, Name};
 use sp_lex::TextKind;
 use std::alloc::{AllocError, Global};
 
 /// How an input is called in a refusal.
-fn input_text(input: Input) -> &'static str
-    ensures { result.now ≡ input_text (input_of input) }
+fn input_name(input: Input) -> &'static str
+    ensures { result.now ≡ input_name input }
 {
     match input {
         Input::Source => "source",
@@ -48,30 +46,31 @@ fn asm_kind(kind: AsmKind) -> &'static str
     }
 }
 
-fn image_kind(kind: ImageKind) -> &'static str
-    ensures { result.now ≡ image_kind (image_kind_of kind) }
+/// The line that says why a text stands for no image.
+fn image_line(alloc: Global, at: Line, kind: HexKind) -> Result<Vec<u8>, AllocError>
+    ensures { IfOk result (λ line. line.items ≡ refusal_text (Refusal.Image at kind)) }
 {
     match kind {
-        ImageKind::BadRecord => "BadRecord",
-        ImageKind::BadSum => "BadSum",
-        ImageKind::Overlap => "Overlap",
-        ImageKind::AfterEnd => "AfterEnd",
+        HexKind::BadRecord => line_at(alloc, "refused Image ", at, "BadRecord"),
+        HexKind::BadSum => line_at(alloc, "refused Image ", at, "BadSum"),
+        HexKind::Overlap => line_at(alloc, "refused Image ", at, "Overlap"),
+        HexKind::AfterEnd => line_at(alloc, "refused Image ", at, "AfterEnd"),
+        HexKind::NoEnd => line_of(alloc, "refused Image NoEnd", ""),
     }
 }
 
 /// The line that says why a command refuses.
 pub fn refusal_line(alloc: Global, refusal: Refusal) -> Result<Vec<u8>, AllocError>
-    ensures { IfOk result (λ line. line.items ≡ refusal_text (refusal_of refusal)) }
+    ensures { IfOk result (λ line. line.items ≡ refusal_text refusal) }
 {
     match refusal {
-        Refusal::Missing(input) => line_of(alloc, "refused Missing ", input_text(input)),
-        Refusal::TooLarge(input) => line_of(alloc, "refused TooLarge ", input_text(input)),
+        Refusal::Missing(input) => line_of(alloc, "refused Missing ", input_name(input)),
+        Refusal::TooLarge(input) => line_of(alloc, "refused TooLarge ", input_name(input)),
         Refusal::NotBuilt => line_of(alloc, "refused NotBuilt", ""),
         Refusal::Open(name, number) => open_line(alloc, name, number),
         Refusal::Text(at, kind) => line_at(alloc, "refused Text ", at, text_kind(kind)),
         Refusal::Asm(at, kind) => line_at(alloc, "refused Asm ", at, asm_kind(kind)),
-        Refusal::BadImage(at, kind) => line_at(alloc, "refused Image ", at, image_kind(kind)),
-        Refusal::NoEnd => line_of(alloc, "refused Image NoEnd", ""),
+        Refusal::Image(at, kind) => image_line(alloc, at, kind),
     }
 }
 
@@ -87,7 +86,7 @@ fn line_of(alloc: Global, front: &str, back: &str) -> Result<Vec<u8>, AllocError
 
 /// The line of an open condition.
 fn open_line(alloc: Global, name: Name, number: u64) -> Result<Vec<u8>, AllocError>
-    ensures { IfOk result (λ line. line.items ≡ refusal_text (refused.Open name number)) }
+    ensures { IfOk result (λ line. line.items ≡ refusal_text (Refusal.Open name number)) }
 {
     let mut line = b"refused Open ".to_vec(alloc)?;
     line.extend_from_slice(name.as_slice())?;
@@ -110,14 +109,14 @@ fn line_at(alloc: Global, front: &str, at: Line, kind: &str) -> Result<Vec<u8>, 
 
 /// The line that says how a source was accepted: how many routines and conditions it has, and how many of these were
 /// true by simplification or by a script.
-pub fn report_line(
+pub fn accepted_line(
     alloc: Global,
     routines: u32,
     conditions: u64,
     simplified: u64,
     scripted: u64,
 ) -> Result<Vec<u8>, AllocError>
-    ensures { IfOk result (λ line. line.items ≡ report_text routines conditions simplified scripted) }
+    ensures { IfOk result (λ line. line.items ≡ accepted_text routines conditions simplified scripted) }
 {
     let mut line = b"accepted".to_vec(alloc)?;
     push_count(alloc, &mut line, b" routines=", u64::from(routines))?;

@@ -1,6 +1,6 @@
 use Rattle.std.proofs.Common.{◌≡◌, [], ◌∷◌, ◌++◌, ap, ◌∙◌, rules}
 use Rattle.std.specs.Prelude.{codes, decimal}
-use Rattle.sp_cli.proofs.texts.report_line.Goals as goal
+use Rattle.sp_cli.proofs.texts.accepted_line.Goals as goal
 
 pub returns : goal.returns
 returns c =
