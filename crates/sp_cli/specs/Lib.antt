@@ -2,7 +2,6 @@ pub mod code
 pub mod Command
 pub mod Inputs
 pub mod Session
-pub mod Shim
 pub mod Space
 pub mod Stages
 pub mod Status

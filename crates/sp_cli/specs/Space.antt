@@ -5,7 +5,7 @@ use Rattle.std.specs.FinMap as maps
 use Rattle.sp_base.specs.Image.{ImageMap}
 use Rattle.sp_base.specs.Files.{Store, Output, IsFrontOf}
 use Rattle.sp_asm.specs.Assembly.{Row, image_of, names_of}
-use Rattle.sp_cli.specs.Shim.{HasAssembly}
+use Rattle.sp_asm.specs.Source.{HasAssembly}
 use Rattle.sp_hex.specs.Hex.{text, StandsFor}
 use Rattle.sp_first.specs.Right.{IsTheImage}
 use Rattle.sp_first.specs.Counts.{AreCounts}

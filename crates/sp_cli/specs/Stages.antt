@@ -5,11 +5,13 @@ use Rattle.sp_base.specs.Image.{ImageMap}
 use Rattle.sp_base.specs.declared.line.Line.{Line}
 use Rattle.sp_lex.specs.declared.refusal.TextKind.{TextKind}
 use Rattle.sp_lex.specs.declared.token.SourceLine.{SourceLine}
-use Rattle.sp_cli.specs.Shim.{AreLines, IsFaultAt, HasAssembly, IsRefused, IsCause}
+use Rattle.sp_lex.specs.Reading.{AreLines, IsFaultAt}
 use Rattle.sp_asm.specs.declared.refusal.AsmKind.{AsmKind}
 use Rattle.sp_asm.specs.Assembly.{Row}
-use Rattle.sp_cli.specs.declared.refusal.HexKind.{HexKind}
+use Rattle.sp_asm.specs.Source.{HasAssembly, IsRefused}
+use Rattle.sp_hex.specs.declared.refusal.HexKind.{HexKind}
 use Rattle.sp_hex.specs.Hex.{StandsFor}
+use Rattle.sp_hex.specs.Refusals.{IsCause}
 use Rattle.sp_first.specs.Right.{IsAccepted, IsNotBuilt, IsOpen}
 use Rattle.sp_cli.specs.declared.refusal.Input.{Input}
 use Rattle.sp_cli.specs.declared.refusal.Input.TheVariants.{Source, Scripts, Image}

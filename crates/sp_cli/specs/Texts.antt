@@ -4,8 +4,8 @@ use Rattle.sp_lex.specs.declared.refusal.TextKind.{TextKind}
 use Rattle.sp_lex.specs.declared.refusal.TextKind.TheVariants as text
 use Rattle.sp_asm.specs.declared.refusal.AsmKind.{AsmKind}
 use Rattle.sp_asm.specs.declared.refusal.AsmKind.TheVariants as asm
-use Rattle.sp_cli.specs.declared.refusal.HexKind.{HexKind}
-use Rattle.sp_cli.specs.declared.refusal.HexKind.TheVariants as hex
+use Rattle.sp_hex.specs.declared.refusal.HexKind.{HexKind}
+use Rattle.sp_hex.specs.declared.refusal.HexKind.TheVariants as hex
 use Rattle.sp_cli.specs.declared.refusal.Input.{Input}
 use Rattle.sp_cli.specs.declared.refusal.Input.TheVariants.{Source, Scripts, Image}
 use Rattle.sp_cli.specs.declared.refusal.Refusal.{Refusal}

@@ -1,7 +1,10 @@
 //! `asm`: what it makes of a source.
 ghost use Rattle.std.specs.Prelude.{◌≡◌, IsErrOf, IfOk, Err, ◌<◌, length};
 ghost use Rattle.sp_base.specs.Files.{Rose};
+ghost use Rattle.std.specs.FinMap as maps;
+ghost use Rattle.sp_hex.specs.Hex.{text, StandsFor};
 ghost use Rattle.sp_cli.specs.Command.{read_names};
+ghost use Rattle.sp_cli.specs.Texts.{assembled_text};
 ghost use Rattle.sp_cli.specs.code.Made.{IsProduct, IsRefusal, OnlyRead, AddsReads, IsAssembled, RefusesSource};
 ghost use Rattle.sp_cli.specs.code.Views.{asm_of};
 
@@ -9,8 +12,22 @@ use crate::command::Asm;
 use crate::inputs::read_input;
 use crate::product::Product;
 use crate::refusal::{Input, Stop};
-use sp_base::Files;
+use crate::texts::assembled_line;
+use sp_asm::{Listing, assemble};
+use sp_base::{Files, Memory};
 use std::alloc::Global;
+
+/// The text of an assembled image, and the report.
+fn product_of(alloc: Global, listing: &Listing) -> Result<Product, Memory>
+    ensures image { IfOk result (λ p. p.image.items ≡ text listing.now.image) }
+    ensures stands { IfOk result (λ _. StandsFor (text listing.now.image) listing.now.image) }
+    ensures report { IfOk result (λ p. p.report.items ≡ assembled_text (maps.len listing.now.image) (length listing.now.names.entries)) }
+{
+    let bytes = listing.image.len();
+    let image = sp_hex::write(alloc, &listing.image)?;
+    let report = assembled_line(alloc, bytes, listing.names.len())?;
+    Ok(Product { image, report })
+}
 
 /// Assembles a source.
 fn assembly(alloc: Global, source: &[u8]) -> Result<Product, Stop>
@@ -19,7 +36,9 @@ fn assembly(alloc: Global, source: &[u8]) -> Result<Product, Stop>
     ensures refused { (r : _) → result ≡ Err (Stop.Refused r) → RefusesSource source.now r }
     ensures no_fault { ¬ IsErrOf result Stop.Fault }
 {
-    Err(Stop::Memory)
+    let lines = sp_lex::lines(alloc, source)?;
+    let listing = assemble(alloc, source, &lines)?;
+    Ok(product_of(alloc, &listing)?)
 }
 
 /// Reads the source of `asm` and assembles it.

@@ -1,8 +1,8 @@
 //! Reading the files that a command takes as inputs.
-ghost use Rattle.std.specs.Prelude.{◌≡◌, ◌∷◌, [], Some, IsTrue, IsErrOf, IfOk, Err, ◌≤◌, vec_len};
+ghost use Rattle.std.specs.Prelude.{◌≡◌, Some, IsTrue, IsErrOf, IfOk, Err, ◌≤◌, vec_len};
 ghost use Rattle.sp_base.specs.Files.{Rose};
 ghost use Rattle.sp_cli.specs.Inputs.{limit, RefusesFile};
-ghost use Rattle.sp_cli.specs.code.Made.{IsFile, OnlyRead, AddsReads};
+ghost use Rattle.sp_cli.specs.code.Made.{IsFile, OnlyRead, AddsRead};
 
 use crate::refusal::{Input, Refusal, Stop};
 use sp_base::{Files, ReadRefusal};
@@ -40,7 +40,7 @@ pub fn read_input<F: Files>(
         → IsFile (IsTrue (F.store files.old).told) ((F.store files.old).contents name.now) (λ file. RefusesFile input file r) }
     ensures fault { IsErrOf result Stop.Fault → Rose (F.store files.old).read_faults (F.store files.new).read_faults }
     ensures kept { OnlyRead (F.store files.old) (F.store files.new) }
-    ensures calls { AddsReads (name.now ∷ []) result (F.store files.old).calls (F.store files.new).calls }
+    ensures calls { AddsRead name.now result (F.store files.old).calls (F.store files.new).calls }
 {
     match files.read(alloc, name, limit(input)) {
         Ok(bytes) => Ok(bytes),

@@ -1,8 +1,8 @@
 //! Why a command ends before anything is written.
-use sp_asm::{AsmKind, AsmRefusal};
-use sp_base::{Line, Memory, Name};
-use sp_hex::HexRefusal;
-use sp_lex::{LexRefusal, TextKind};
+use sp_asm::AsmKind;
+use sp_base::{Line, Memory, Name, Refused};
+use sp_hex::HexKind;
+use sp_lex::TextKind;
 
 /// A file that a command reads.
 #[derive(Clone, Copy, Debug, PartialEq, Eq)]
@@ -10,16 +10,6 @@ pub enum Input {
     Source,
     Scripts,
     Image,
-}
-
-/// How a line of a HEX text is wrong.
-#[derive(Clone, Copy, Debug)]
-pub enum HexKind {
-    BadRecord,
-    BadSum,
-    Overlap,
-    AfterEnd,
-    NoEnd,
 }
 
 /// Why a command refuses what it was given.
@@ -65,6 +55,48 @@ impl From<sp_first::Refusal> for Stop {
             sp_first::Refusal::NotBuilt => Stop::Refused(Refusal::NotBuilt),
             sp_first::Refusal::Open(name, number) => Stop::Refused(Refusal::Open(name, number)),
             sp_first::Refusal::Memory => Stop::Memory,
+        }
+    }
+}
+
+impl From<Refused<TextKind>> for Stop {
+    ghost use Rattle.std.specs.Prelude.{◌≡◌};
+    ghost use Rattle.sp_cli.specs.code.Stops.{text_stop};
+
+    ghost from_gives = { λ r s. s ≡ text_stop r };
+
+    fn from(refusal: Refused<TextKind>) -> Stop {
+        match refusal {
+            Refused::At(line, kind) => Stop::Refused(Refusal::Text(line, kind)),
+            Refused::Memory => Stop::Memory,
+        }
+    }
+}
+
+impl From<Refused<AsmKind>> for Stop {
+    ghost use Rattle.std.specs.Prelude.{◌≡◌};
+    ghost use Rattle.sp_cli.specs.code.Stops.{asm_stop};
+
+    ghost from_gives = { λ r s. s ≡ asm_stop r };
+
+    fn from(refusal: Refused<AsmKind>) -> Stop {
+        match refusal {
+            Refused::At(line, kind) => Stop::Refused(Refusal::Asm(line, kind)),
+            Refused::Memory => Stop::Memory,
+        }
+    }
+}
+
+impl From<Refused<HexKind>> for Stop {
+    ghost use Rattle.std.specs.Prelude.{◌≡◌};
+    ghost use Rattle.sp_cli.specs.code.Stops.{image_stop};
+
+    ghost from_gives = { λ r s. s ≡ image_stop r };
+
+    fn from(refusal: Refused<HexKind>) -> Stop {
+        match refusal {
+            Refused::At(line, kind) => Stop::Refused(Refusal::Image(line, kind)),
+            Refused::Memory => Stop::Memory,
         }
     }
 }

@@ -1,7 +1,6 @@
 //! `run`: what it makes of the text of an image and option words.
 ghost use Rattle.std.specs.Prelude.{◌≡◌, IsErrOf, IsSome, IfOk, Err, ◌<◌, length};
 ghost use Rattle.sp_base.specs.Files.{Rose};
-ghost use Rattle.sp_hex.specs.Hex.{StandsFor};
 ghost use Rattle.sp_run.specs.Options.{options_of};
 ghost use Rattle.sp_cli.specs.Command.{words_of, read_names};
 ghost use Rattle.sp_cli.specs.code.Made.{IsProduct, IsRefusal, OnlyRead, AddsReads, RefusesText, IsRunOf, IsRunOfText};
@@ -13,15 +12,6 @@ use crate::product::Product;
 use crate::refusal::{Input, Stop};
 use sp_base::{Files, Image, Memory};
 use std::alloc::Global;
-
-fn image_of(alloc: Global, text: &[u8]) -> Result<Image, Stop>
-    requires { length text.now < 4294967295 }
-    ensures ok { IfOk result (StandsFor text.now) }
-    ensures refused { (r : _) → result ≡ Err (Stop.Refused r) → RefusesText text.now r }
-    ensures no_fault { ¬ IsErrOf result Stop.Fault }
-{
-    Err(Stop::Memory)
-}
 
 /// The text of the run of an image under option words.
 fn product_of(alloc: Global, image: &Image, options: &[String]) -> Result<Product, Memory>
@@ -44,7 +34,7 @@ fn simulation(alloc: Global, text: &[u8], options: &[String]) -> Result<Product,
     ensures refused { (r : _) → result ≡ Err (Stop.Refused r) → RefusesText text.now r }
     ensures no_fault { ¬ IsErrOf result Stop.Fault }
 {
-    let image = image_of(alloc, text)?;
+    let image = sp_hex::read(alloc, text)?;
     Ok(product_of(alloc, &image, options)?)
 }
 

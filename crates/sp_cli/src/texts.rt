@@ -2,9 +2,10 @@
 ghost use Rattle.std.specs.Prelude.{◌≡◌, ◌∷◌, ◌++◌, [], IfOk, OnOk, codes, decimal};
 ghost use Rattle.sp_cli.specs.Texts.{input_name, text_kind, asm_kind, image_kind, refusal_text, accepted_text, assembled_text};
 
-use crate::refusal::{HexKind, Input, Refusal};
+use crate::refusal::{Input, Refusal};
 use sp_asm::AsmKind;
 use sp_base::{Line, Name};
+use sp_hex::HexKind;
 use sp_lex::TextKind;
 use std::alloc::{AllocError, Global};
 

@@ -1,7 +1,7 @@
 //! `verify`: what it makes of a source and scripts.
 ghost use Rattle.std.specs.Prelude.{◌≡◌, IsErrOf, IfOk, Err};
 ghost use Rattle.sp_base.specs.Files.{Rose};
-ghost use Rattle.sp_hex.specs.Hex.{text};
+ghost use Rattle.sp_hex.specs.Hex.{text, StandsFor};
 ghost use Rattle.sp_first.specs.Counts.{AreCounts};
 ghost use Rattle.sp_cli.specs.Command.{read_names};
 ghost use Rattle.sp_cli.specs.Stages.{RefusesProgram};
@@ -20,6 +20,7 @@ use std::alloc::Global;
 
 /// The text of an accepted image, and the report.
 fn product_of(alloc: Global, accepted: &Accepted) -> Result<Product, Memory>
+    ensures stands { IfOk result (λ _. StandsFor (text accepted.now.image) accepted.now.image) }
     ensures image { IfOk result (λ p. p.image.items ≡ text accepted.now.image) }
     ensures report { IfOk result (λ p. p.report.items ≡ accepted_text accepted.now.routines accepted.now.conditions accepted.now.simplified accepted.now.scripted) }
 {

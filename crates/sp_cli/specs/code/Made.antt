@@ -6,7 +6,7 @@ use Rattle.sp_base.specs.declared.calls.Outcome.{Outcome}
 use Rattle.sp_base.specs.declared.calls.Outcome.TheVariants as outcome
 use Rattle.sp_base.specs.declared.line.Line.{Line}
 use Rattle.sp_base.specs.Image.{ImageMap}
-use Rattle.sp_base.specs.declared.calls.Access.TheVariants.{Write}
+use Rattle.sp_base.specs.declared.calls.Access.TheVariants.{Read, Write}
 use Rattle.sp_base.specs.declared.files.WriteRefusal.{WriteRefusal}
 use Rattle.sp_base.specs.Calls.{Call, call}
 use Rattle.sp_base.specs.Files.{Store, Adds, write_outcome}
@@ -20,8 +20,10 @@ use Rattle.sp_first.specs.Counts.{AreCounts}
 use Rattle.sp_run.specs.declared.settings.Options.{Options}
 use Rattle.sp_run.specs.Options.{options_of}
 use Rattle.sp_run.specs.Run.{IsRunText}
-use Rattle.sp_cli.specs.Shim.{AreLines, IsFaultAt, HasAssembly, IsRefused, IsCause}
-use Rattle.sp_cli.specs.declared.refusal.HexKind.{HexKind}
+use Rattle.sp_lex.specs.Reading.{AreLines, IsFaultAt}
+use Rattle.sp_asm.specs.Source.{HasAssembly, IsRefused}
+use Rattle.sp_hex.specs.Refusals.{IsCause}
+use Rattle.sp_hex.specs.declared.refusal.HexKind.{HexKind}
 use Rattle.sp_cli.specs.declared.refusal.Refusal.{Refusal}
 use Rattle.sp_cli.specs.declared.refusal.Refusal.TheVariants as refusal
 use Rattle.sp_cli.specs.declared.refusal.Stop.{Stop}
@@ -80,6 +82,18 @@ EndsReads outcome.Missing result = (input : Input) × (result ≡ Err (stop.Refu
 EndsReads outcome.TooLarge result = (input : Input) × (result ≡ Err (stop.Refused (refusal.TooLarge input)))
 EndsReads outcome.Failed result = result ≡ Err stop.Fault
 EndsReads outcome.Memory result = result ≡ Err stop.Memory
+
+-- the same of one read, which gives its bytes exactly where it is done
+abbrev pub EndsRead : {A : Type 0} → Outcome → Result A Stop → Type 0
+EndsRead {A = A} outcome.Done result = (bytes : A) × (result ≡ Ok bytes)
+EndsRead outcome.Missing result = (input : Input) × (result ≡ Err (stop.Refused (refusal.Missing input)))
+EndsRead outcome.TooLarge result = (input : Input) × (result ≡ Err (stop.Refused (refusal.TooLarge input)))
+EndsRead outcome.Failed result = result ≡ Err stop.Fault
+EndsRead outcome.Memory result = result ≡ Err stop.Memory
+
+-- the file of this name was read, with this result
+abbrev pub AddsRead : {A : Type 0} → List ℕ → Result A Stop → List Call → List Call → Type 0
+AddsRead name result before after = (end : Outcome) × EndsRead end result × Adds (call Read name end) before after
 
 -- the files of these names were read, with this result
 pub record AddsReads {A : Type 0} (names : List (List ℕ)) (result : Result A Stop) (before after : List Call) : Type 0 where

@@ -2,7 +2,7 @@ use Rattle.std.proofs.Common.{◌≡◌, ◌-◌, ◌≤◌, List, [], ◌∷◌
 use Rattle.std.specs.Prelude.{String, codes, string_bytes}
 use Rattle.std.specs.declared.alloc.Global.{Global}
 use Rattle.std.proofs.lemmas.Grind.{common_steps}
-use Rattle.sp_cli.specs.Space.{words_of}
+use Rattle.sp_cli.specs.Command.{words_of}
 use Rattle.sp_cli.proofs.command.run_of.Goals as goal
 
 -- a list of two words and others

@@ -1,7 +1,7 @@
 use Rattle.std.proofs.Common.{◌≡◌, ◌<◌, ◌≤◌, List, [], ◌∷◌, length, get_or, ap, ◌∙◌, arith, rules, tests}
 use Rattle.std.specs.Prelude.{String, codes, string_bytes}
 use Rattle.std.specs.declared.alloc.Global.{Global}
-use Rattle.sp_cli.specs.Space.{words_of}
+use Rattle.sp_cli.specs.Command.{words_of}
 use Rattle.sp_cli.proofs.command.verify_of.Goals as goal
 
 -- a list of four words
