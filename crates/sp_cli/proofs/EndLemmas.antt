@@ -1,29 +1,20 @@
 -- How a command ends, from how its text was put.
-use Rattle.std.proofs.Common.{◌≡◌, ◌≢◌, ◌⊎◌, ℕ, List, [], ◌∷◌, ◌++◌, refl, sym, ap, subst, ◌∙◌, Some, None, Ok, Err, inl, inr}
-use Rattle.std.specs.Prelude.{Option, Result, IsTrue, IsErrOf}
-use Rattle.std.proofs.lemmas.List.{append-nil, append_assoc}
-use Rattle.sp_base.specs.declared.calls.Access.TheVariants.{Read, Write}
-use Rattle.sp_base.specs.declared.calls.Outcome.{Outcome}
-use Rattle.sp_base.specs.declared.calls.Outcome.TheVariants as outcome
-use Rattle.sp_base.specs.declared.files.WriteRefusal.{WriteRefusal}
-use Rattle.sp_base.specs.declared.files.WriteRefusal.TheVariants as write
-use Rattle.sp_base.specs.Calls.{Call, call}
-use Rattle.sp_base.specs.Files.{Store, Output, IsFrontOf, AnswersWrite}
+use Rattle.std.proofs.Common.{◌≡◌, ◌⊎◌, ℕ, List, [], refl, sym, ap, subst, ◌∙◌, Some, inl, inr}
+use Rattle.std.specs.Prelude.{Option, IsTrue}
+use Rattle.sp_base.specs.Files.{Store, Output, IsFrontOf}
 use Rattle.sp_cli.specs.declared.status.Status.{Status}
 use Rattle.sp_cli.specs.declared.status.Status.TheVariants as status
 use Rattle.sp_cli.specs.declared.refusal.Refusal.{Refusal}
-use Rattle.sp_cli.specs.declared.refusal.Stop.{Stop}
-use Rattle.sp_cli.specs.declared.refusal.Stop.TheVariants as stop
 use Rattle.sp_cli.specs.declared.product.Product.{Product}
-use Rattle.sp_cli.specs.Command.{Command, image_name, read_names, held_by}
+use Rattle.sp_cli.specs.Command.{Command, image_name, held_by}
 use Rattle.sp_cli.specs.Inputs.{Held}
-use Rattle.sp_cli.specs.Session.{AreReads, FollowsReads, AreWrites, IsSession, AddsSession}
-use Rattle.sp_cli.specs.Space.{Took, HoldsImage, HoldsFront, IsTextOf, IsText, ImageAfter, SinkAfter, EndsEarly}
+use Rattle.sp_cli.specs.Space.{Took, HoldsImage, HoldsFront, IsTextOf, ImageAfter, SinkAfterUsage}
 use Rattle.sp_cli.specs.Stages.{Stands, Accepts}
-use Rattle.sp_cli.specs.Texts.{refusal_text}
+use Rattle.sp_cli.specs.Texts.{refusal_text, usage_text}
 use Rattle.sp_cli.specs.code.After.{Says, After}
-use Rattle.sp_cli.specs.code.Made.{IsProduct, IsProductOf, IsRefusal, EndsReads, AddsReads, AddsWrite}
+use Rattle.sp_cli.specs.code.Made.{IsProduct, IsProductOf, IsRefusal}
 use Rattle.sp_cli.specs.code.Put.{PutEnds}
+use Rattle.sp_cli.proofs.StageLemmas.{refusals_are_one}
 
 refused_text : (c : Command) (held : Held) (r : Refusal) → Stands c held r → IsTextOf status.Refused c held (refusal_text r)
 refused_text c held r h = record { before = []; last = refusal_text r; are_before = refl; is_last = (r, h, refl); whole = refl }
@@ -129,3 +120,60 @@ module _ (c : Command) (files mid left : Store) (before after : Output) (p : Pro
     ];
     sink = λ _. ap (λ (o : Output). o.taken) still;
   }
+
+-- ---- The words are in no form
+
+pub put_as_usage : (before after : Output) (result : Status) → PutEnds status.Usage usage_text before after result → result ≡ status.Usage → Took before after usage_text
+put_as_usage before after result (inl h) is = h.1
+put_as_usage before after result (inr (inl h)) is = let e : status.SinkFault ≡ status.Usage = sym h.0 ∙ is in cc
+put_as_usage before after result (inr (inr h)) is = let e : status.Memory ≡ status.Usage = sym h.0 ∙ is in cc
+
+pub sink_as_usage : (before after : Output) (result : Status) → IsTrue before.told → PutEnds status.Usage usage_text before after result → SinkAfterUsage result before after
+sink_as_usage before after result told (inl h) = subst (λ s. SinkAfterUsage s before after) (sym h.0) (h.1 told)
+sink_as_usage before after result told (inr (inl h)) = subst (λ s. SinkAfterUsage s before after) (sym h.0) (h.2 told)
+sink_as_usage before after result told (inr (inr h)) = subst (λ s. SinkAfterUsage s before after) (sym h.0) (h.1 told)
+
+-- ---- What a status says, where files tell what they hold
+
+module _ (c : Command) (s : Status) (files left : Store) (before after : Output) (h : After c s files left before after) where
+  pub image_held : (name : List ℕ) → image_name c ≡ Some name → IsTrue files.told → ImageAfter s c (held_by files.contents c) (files.contents name) (left.contents name)
+  image_held name named told = subst (λ held. ImageAfter s c held (files.contents name) (left.contents name)) (h.are_held told) (h.image name named told)
+
+  says : IsTrue files.told → Says s c (held_by files.contents c) before after
+  says told = subst (λ held. Says s c held before after) (h.are_held told) h.says
+
+no_refusal : (c : Command) (held : Held) (text : List ℕ) → Accepts c held → IsTextOf status.Refused c held text → ⊥
+no_refusal c held text a h = refusals_are_one.none c held h.is_last.0 a h.is_last.1
+
+never_long : (c : Command) (held : Held) (text : List ℕ) → IsTextOf status.TooLong c held text → ⊥
+never_long c held text h = h.is_last.1
+
+-- nothing but Done and want of memory is left of a command that accepts
+only_done : (c : Command) (held : Held) (before after : Output) (R W S : Type 0) (s : Status) → Says s c held before after → Accepts c held
+    → (s ≡ status.ReadFault → R) → (s ≡ status.WriteFault → W) → (s ≡ status.SinkFault → S) → ¬ R → ¬ W → ¬ S → (s ≡ status.Done) ⊎ (s ≡ status.Memory)
+only_done c held before after R W S status.Done says a r w p nr nw np = inl refl
+only_done c held before after R W S status.Memory says a r w p nr nw np = inr refl
+only_done c held before after R W S status.Refused says a r w p nr nw np = absurd (no_refusal c held says.0 a says.1)
+only_done c held before after R W S status.Usage says a r w p nr nw np = absurd says
+only_done c held before after R W S status.TooLong says a r w p nr nw np = absurd (never_long c held says.0 says.1)
+only_done c held before after R W S status.ReadFault says a r w p nr nw np = absurd (nr (r refl))
+only_done c held before after R W S status.WriteFault says a r w p nr nw np = absurd (nw (w refl))
+only_done c held before after R W S status.SinkFault says a r w p nr nw np = absurd (np (p refl))
+
+only_refused : (c : Command) (held : Held) (before after : Output) (R S : Type 0) (s : Status) (q : Refusal) → Says s c held before after → Stands c held q
+    → (s ≡ status.ReadFault → R) → (s ≡ status.SinkFault → S) → ¬ R → ¬ S → (s ≡ status.Refused) ⊎ (s ≡ status.Memory)
+only_refused c held before after R S status.Done q says h r p nr np = absurd (refusals_are_one.none c held q says.1.is_last.0 h)
+only_refused c held before after R S status.Memory q says h r p nr np = inr refl
+only_refused c held before after R S status.Refused q says h r p nr np = inl refl
+only_refused c held before after R S status.Usage q says h r p nr np = absurd says
+only_refused c held before after R S status.TooLong q says h r p nr np = absurd (never_long c held says.0 says.1)
+only_refused c held before after R S status.ReadFault q says h r p nr np = absurd (nr (r refl))
+only_refused c held before after R S status.WriteFault q says h r p nr np = absurd (refusals_are_one.none c held q says h)
+only_refused c held before after R S status.SinkFault q says h r p nr np = absurd (np (p refl))
+
+module _ (c : Command) (s : Status) (files left : Store) (before after : Output) (h : After c s files left before after) (told : IsTrue files.told) where
+  pub done_or_memory : {R W S : Type 0} → Accepts c (held_by files.contents c) → (s ≡ status.ReadFault → R) → (s ≡ status.WriteFault → W) → (s ≡ status.SinkFault → S) → ¬ R → ¬ W → ¬ S → (s ≡ status.Done) ⊎ (s ≡ status.Memory)
+  done_or_memory {R = R} {W = W} {S = S} a r w p nr nw np = only_done c (held_by files.contents c) before after R W S s (says c s files left before after h told) a r w p nr nw np
+
+  pub refused_or_memory : {R S : Type 0} (q : Refusal) → Stands c (held_by files.contents c) q → (s ≡ status.ReadFault → R) → (s ≡ status.SinkFault → S) → ¬ R → ¬ S → (s ≡ status.Refused) ⊎ (s ≡ status.Memory)
+  refused_or_memory {R = R} {S = S} q stands r p nr np = only_refused c (held_by files.contents c) before after R S s q (says c s files left before after h told) stands r p nr np

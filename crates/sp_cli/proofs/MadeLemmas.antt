@@ -1,31 +1,18 @@
 -- What a command makes of the bytes that its inputs hold.
-use Rattle.std.proofs.Common.{◌≡◌, ◌⊎◌, ℕ, ◌+◌, ◌<◌, ◌≤◌, Bool, true, false, List, length, replicate, refl, sym, ap, subst, ◌∙◌, Some, None, Ok, Err, inl, inr, arith}
+use Rattle.std.proofs.Common.{◌≡◌, ℕ, ◌+◌, ◌<◌, ◌≤◌, Bool, true, false, List, length, replicate, refl, sym, ap, ◌∙◌, Some, None, Ok, Err, inl, inr, arith}
 use Rattle.std.specs.Prelude.{Option, Result, IfOk, IsTrue}
 use Rattle.std.proofs.lemmas.List.{length-replicate}
 use Rattle.sp_base.specs.Files.{Store}
-use Rattle.sp_base.specs.Refused.{Answers}
-use Rattle.sp_base.specs.declared.refused.Refused.{Refused}
-use Rattle.sp_base.specs.declared.refused.Refused.TheVariants as refused
-use Rattle.sp_lex.specs.declared.refusal.TextKind.{TextKind}
-use Rattle.sp_lex.specs.declared.token.SourceLine.{SourceLine}
-use Rattle.sp_lex.specs.Reading.{AreLines, IsFaultAt}
-use Rattle.sp_asm.specs.declared.refusal.AsmKind.{AsmKind}
-use Rattle.sp_asm.specs.Refusals.{IsCause}
-use Rattle.sp_asm.specs.Source.{IsRefused}
-use Rattle.sp_hex.specs.declared.refusal.HexKind.{HexKind}
-use Rattle.sp_hex.specs.Refusals as hex
 use Rattle.sp_cli.specs.declared.refusal.Input.{Input}
 use Rattle.sp_cli.specs.declared.refusal.Input.TheVariants.{Source, Scripts, Image}
 use Rattle.sp_cli.specs.declared.refusal.Refusal.{Refusal}
 use Rattle.sp_cli.specs.declared.refusal.Refusal.TheVariants as refusal
 use Rattle.sp_cli.specs.declared.refusal.Stop.{Stop}
-use Rattle.sp_cli.specs.declared.refusal.Stop.TheVariants as stop
 use Rattle.sp_cli.specs.declared.product.Product.{Product}
 use Rattle.sp_cli.specs.Command.{Verify, Asm, Run}
-use Rattle.sp_cli.specs.Inputs.{Held, limit, IsWithin, RefusesFile}
+use Rattle.sp_cli.specs.Inputs.{Held, limit, RefusesFile}
 use Rattle.sp_cli.specs.Stages.{RefusesProgram}
 use Rattle.sp_cli.specs.code.Made.{IsProduct, IsRefusal, IsFile, IsAssembled, IsVerified, IsRunOfText, RefusesSource, RefusesText}
-use Rattle.sp_cli.specs.code.Stops.{text_stop, asm_stop, image_stop}
 
 -- a file that is too large, of which nothing may be told
 pub too_large : (told : Bool) (file : Option (List ℕ)) (input : Input) → (IsTrue told → (bytes : List ℕ) × (file ≡ Some bytes) × (limit input < length bytes))
@@ -33,25 +20,7 @@ pub too_large : (told : Bool) (file : Option (List ℕ)) (input : Input) → (Is
 too_large true file input h = record { content = file; is = λ _. refl; says = inr (refl, h refl) }
 too_large false file input h =
     let bytes : List ℕ = replicate (limit input + 1) 0 in
-    record { content = Some bytes; is = λ t. absurd cc; says = inr (refl, (bytes, refl, omega (arith, length-replicate (limit input + 1) 0))) }
-
--- ---- Refusals of the layers
-
-same_refusal : (a b : Refusal) → stop.Refused a ≡ stop.Refused b → a ≡ b
-same_refusal a b e = cc
-
-module _ (source : List ℕ) (r : Refusal) where
-  pub text_refuses : (e : Refused TextKind) → Answers {A = List SourceLine} (AreLines source) (IsFaultAt source) (Err e) → stop.Refused r ≡ text_stop e → RefusesSource source r
-  text_refuses (refused.At line kind) h is = inl (line, kind, same_refusal r (refusal.Text line kind) is, h)
-  text_refuses refused.Memory h is = absurd cc
-
-  pub asm_refuses : (lines : List SourceLine) (e : Refused AsmKind) → AreLines source lines → ((line : ℕ) (kind : AsmKind) → e ≡ refused.At (record { 0 = line }) kind → IsCause source lines line kind) → stop.Refused r ≡ asm_stop e → RefusesSource source r
-  asm_refuses lines (refused.At line kind) read h is = inr ((lines, read), (line, kind, same_refusal r (refusal.Asm line kind) is, record { lines = lines; read = read; cause = h line.0 kind refl }))
-  asm_refuses lines refused.Memory read h is = absurd cc
-
-  pub image_refuses : (e : Refused HexKind) → ((line : ℕ) (kind : HexKind) → e ≡ refused.At (record { 0 = line }) kind → hex.IsCause source line kind) → stop.Refused r ≡ image_stop e → RefusesText source r
-  image_refuses (refused.At line kind) h is = (line, kind, same_refusal r (refusal.Image line kind) is, h line.0 kind refl)
-  image_refuses refused.Memory h is = absurd cc
+    record { content = Some bytes; is = λ t. absurd cc; says = inr (refl, (bytes, refl, omega (arith, length-replicate {A = ℕ} (limit input + 1) 0))) }
 
 -- ---- One input
 
@@ -67,7 +36,7 @@ module _ (files : Store) (name other bytes : List ℕ) (is : IsTrue files.told �
     held = source_held;
     are_held = λ t. ap (λ f. record { source = f; scripts = None; image = None }) (sym (is t));
     product = record {
-      accepts = ((bytes, refl, within), (bytes, h.lines, refl, h.read), (bytes, h.rows, refl, h.assembly), tt);
+      accepts = ((bytes, refl, within), ((bytes, h.lines, refl, h.read), ((bytes, h.rows, refl, h.assembly), tt)));
       image = λ _ _. record { image = _; right = (bytes, h.rows, refl, h.assembly, refl); is = h.image; stands = h.stands };
       report = (bytes, h.rows, refl, h.assembly, h.report);
     };
@@ -90,7 +59,7 @@ module _ (files : Store) (name other bytes : List ℕ) (is : IsTrue files.told �
     held = image_held;
     are_held = λ t. ap (λ f. record { source = None; scripts = None; image = f }) (sym (is t));
     product = record {
-      accepts = ((bytes, refl, within), (bytes, h.0, refl, h.1), tt);
+      accepts = ((bytes, refl, within), ((bytes, h.0, refl, h.1), tt));
       image = λ _ named. absurd cc;
       report = (bytes, h.0, h.2.0, refl, h.1, h.2.1, h.2.2);
     };
@@ -148,7 +117,7 @@ module _ (files : Store) (source scripts image : List ℕ) where
       held = program (Some s) (Some t);
       are_held = held;
       product = record {
-        accepts = ((s, refl, within), (t, refl, fits), (s, t, refl, refl, h.accepted), tt);
+        accepts = ((s, refl, within), ((t, refl, fits), ((s, t, refl, refl, h.accepted), tt)));
         image = λ _ _. record { image = h.image; right = (s, refl, h.right); is = h.written; stands = h.stands };
         report = (h.routines, h.conditions, h.simplified, h.scripted, h.counts, h.report);
       };
@@ -163,7 +132,6 @@ module _ (files : Store) (source scripts image : List ℕ) where
 
 -- ---- The same, of an answer
 
-module _ {P : Product → Type 0} {Q : Product → Type 0} where
-  pub if_ok : (result : Result Product Stop) → ((p : Product) → P p → Q p) → IfOk result P → IfOk result Q
-  if_ok (Ok p) h g = h p g
-  if_ok (Err e) h g = g
+pub if_ok : {P Q : Product → Type 0} (result : Result Product Stop) → ((p : Product) → P p → Q p) → IfOk result P → IfOk result Q
+if_ok (Ok p) h g = h p g
+if_ok (Err e) h g = g

@@ -5,7 +5,6 @@ use Rattle.std.proofs.lemmas.List.{append-nil, append_assoc}
 use Rattle.sp_base.specs.declared.calls.Access.TheVariants.{Write}
 use Rattle.sp_base.specs.declared.calls.Outcome.{Outcome}
 use Rattle.sp_base.specs.declared.calls.Outcome.TheVariants as outcome
-use Rattle.sp_base.specs.declared.files.WriteRefusal.{WriteRefusal}
 use Rattle.sp_base.specs.declared.files.WriteRefusal.TheVariants as write
 use Rattle.sp_base.specs.Calls.{Call, call}
 use Rattle.sp_base.specs.Files.{Output}
@@ -19,6 +18,7 @@ use Rattle.sp_cli.specs.Command.{Command, image_name, read_names}
 use Rattle.sp_cli.specs.Session.{FollowsReads, AreWrites, AddsSession}
 use Rattle.sp_cli.specs.code.Made.{EndsReads, AddsReads, AddsWrite}
 use Rattle.sp_cli.specs.code.Put.{PutEnds}
+use Rattle.sp_cli.proofs.ReadLemmas.{err}
 
 no_write : (image : Option (List ℕ)) (s : Status) → s ≢ status.Done → s ≢ status.WriteFault → AreWrites image s []
 no_write None s done fault = refl
@@ -46,47 +46,51 @@ early_no_write image s Unsaid = no_write image status.SinkFault (λ e. cc) (λ e
 
 module _ (c : Command) (before after : List Call) where
   early : (result : Result Product Stop) (s : Status) (h : AddsReads (read_names c) result before after) → Early s → FollowsReads h.end s → AddsSession c s before after
-  early result s h e follows = (h.calls, h.added, record {
-    reads = h.calls;
-    writes = [];
-    end = h.end;
-    whole = sym (append-nil h.calls);
-    are_reads = h.are_reads;
-    follows = follows;
-    are_writes = early_no_write (image_name c) s e;
-    early = λ _. refl;
-  })
+  early result s h e follows = (
+    h.calls,
+    h.added,
+    record {
+      reads = h.calls;
+      writes = [];
+      end = h.end;
+      whole = sym (append-nil h.calls);
+      are_reads = h.are_reads;
+      follows = follows;
+      are_writes = early_no_write (image_name c) s e;
+      early = λ _. refl;
+    },
+  )
 
-  fault_follows : (end : Outcome) → EndsReads {A = Product} end (Err stop.Fault) → FollowsReads end status.ReadFault
+  fault_follows : (end : Outcome) → EndsReads end (err Product stop.Fault) → FollowsReads end status.ReadFault
   fault_follows outcome.Done h = absurd (h refl)
   fault_follows outcome.Missing h = absurd (let e = h.1 in cc)
   fault_follows outcome.TooLarge h = absurd (let e = h.1 in cc)
   fault_follows outcome.Failed h = refl
   fault_follows outcome.Memory h = absurd cc
 
-  pub fault_session : AddsReads (read_names c) (Err {A = Product} stop.Fault) before after → AddsSession c status.ReadFault before after
+  pub fault_session : AddsReads (read_names c) (err Product stop.Fault) before after → AddsSession c status.ReadFault before after
   fault_session h = early _ status.ReadFault h Faulty (fault_follows h.end h.ends)
 
-  memory_follows : (end : Outcome) → EndsReads {A = Product} end (Err stop.Memory) → FollowsReads end status.Memory
+  memory_follows : (end : Outcome) → EndsReads end (err Product stop.Memory) → FollowsReads end status.Memory
   memory_follows outcome.Done h = λ e. cc
   memory_follows outcome.Missing h = absurd (let e = h.1 in cc)
   memory_follows outcome.TooLarge h = absurd (let e = h.1 in cc)
   memory_follows outcome.Failed h = absurd cc
   memory_follows outcome.Memory h = refl
 
-  pub memory_session : AddsReads (read_names c) (Err {A = Product} stop.Memory) before after → AddsSession c status.Memory before after
+  pub memory_session : AddsReads (read_names c) (err Product stop.Memory) before after → AddsSession c status.Memory before after
   memory_session h = early _ status.Memory h Short (memory_follows h.end h.ends)
 
-  refused_follows : (r : Refusal) (end : Outcome) (s : Status) → EndsReads {A = Product} end (Err (stop.Refused r)) → s ≢ status.ReadFault → (s ≡ status.Refused) ⊎ ((s ≡ status.SinkFault) ⊎ (s ≡ status.Memory)) → FollowsReads end s
+  refused_follows : (r : Refusal) (end : Outcome) (s : Status) → EndsReads end (err Product (stop.Refused r)) → s ≢ status.ReadFault → (s ≡ status.Refused) ⊎ ((s ≡ status.SinkFault) ⊎ (s ≡ status.Memory)) → FollowsReads end s
   refused_follows r outcome.Done s h fault which = fault
   refused_follows r outcome.Missing s h fault which = which
   refused_follows r outcome.TooLarge s h fault which = which
   refused_follows r outcome.Failed s h fault which = absurd cc
   refused_follows r outcome.Memory s h fault which = absurd cc
 
-  pub refused_session : (r : Refusal) (text : List ℕ) (out new : Output) (s : Status) → PutEnds status.Refused text out new s → AddsReads (read_names c) (Err {A = Product} (stop.Refused r)) before after → AddsSession c s before after
+  pub refused_session : (r : Refusal) (text : List ℕ) (out new : Output) (s : Status) → PutEnds status.Refused text out new s → AddsReads (read_names c) (err Product (stop.Refused r)) before after → AddsSession c s before after
   refused_session r text out new s (inl (is, took)) h = subst (λ s. AddsSession c s before after) (sym is) (early _ status.Refused h Said (refused_follows r h.end status.Refused h.ends (λ e. cc) (inl refl)))
-  refused_session r text out new s (inr (inl (is, took))) h = subst (λ s. AddsSession c s before after) (sym is) (early _ status.SinkFault h Unsaid (refused_follows r h.end status.SinkFault h.ends (λ e. cc) (inr (inl refl))))
+  refused_session r text out new s (inr (inl (is, rose, took))) h = subst (λ s. AddsSession c s before after) (sym is) (early _ status.SinkFault h Unsaid (refused_follows r h.end status.SinkFault h.ends (λ e. cc) (inr (inl refl))))
   refused_session r text out new s (inr (inr (is, took))) h = subst (λ s. AddsSession c s before after) (sym is) (early _ status.Memory h Short (refused_follows r h.end status.Memory h.ends (λ e. cc) (inr (inr refl))))
 
 all_read : (end : Outcome) (p : Product) → EndsReads end (Ok p) → end ≡ outcome.Done
@@ -98,16 +102,20 @@ all_read outcome.Memory p h = absurd cc
 
 module _ (c : Command) (before mid after : List Call) (p : Product) (h : AddsReads (read_names c) (Ok p) before mid) where
   late : (s : Status) (writes : List Call) → s ≢ status.ReadFault → after ≡ mid ++ writes → AreWrites (image_name c) s writes → AddsSession c s before after
-  late s writes fault added are = (h.calls ++ writes, added ∙ ap (λ cs. cs ++ writes) h.added ∙ append_assoc before h.calls writes, record {
-    reads = h.calls;
-    writes = writes;
-    end = h.end;
-    whole = refl;
-    are_reads = h.are_reads;
-    follows = subst (λ e. FollowsReads e s) (sym (all_read h.end p h.ends)) fault;
-    are_writes = are;
-    early = λ not. absurd (not (all_read h.end p h.ends));
-  })
+  late s writes fault added are = (
+    h.calls ++ writes,
+    added ∙ ap (λ cs. cs ++ writes) h.added ∙ append_assoc before h.calls writes,
+    record {
+      reads = h.calls;
+      writes = writes;
+      end = h.end;
+      whole = refl;
+      are_reads = h.are_reads;
+      follows = subst (λ e. FollowsReads e s) (sym (all_read h.end p h.ends)) fault;
+      are_writes = are;
+      early = λ not. absurd (not (all_read h.end p h.ends));
+    },
+  )
 
   -- the statuses after an image was written whole
   written : (image : Option (List ℕ)) (s : Status) → AddsWrite image (Ok tt) mid after → (s ≡ status.Done) ⊎ ((s ≡ status.SinkFault) ⊎ (s ≡ status.Memory)) → (writes : List Call) × (after ≡ mid ++ writes) × AreWrites image s writes
@@ -119,7 +127,7 @@ module _ (c : Command) (before mid after : List Call) (p : Product) (h : AddsRea
 
   which_put : (text : List ℕ) (out new : Output) (s : Status) → PutEnds status.Done text out new s → (s ≡ status.Done) ⊎ ((s ≡ status.SinkFault) ⊎ (s ≡ status.Memory))
   which_put text out new s (inl (is, took)) = inl is
-  which_put text out new s (inr (inl (is, took))) = inr (inl is)
+  which_put text out new s (inr (inl (is, rose, took))) = inr (inl is)
   which_put text out new s (inr (inr (is, took))) = inr (inr is)
 
   no_fault : (s : Status) → (s ≡ status.Done) ⊎ ((s ≡ status.SinkFault) ⊎ (s ≡ status.Memory)) → s ≢ status.ReadFault

@@ -1,5 +1,5 @@
 -- A command has one refusal at most, and none where it accepts.
-use Rattle.std.proofs.Common.{◌≡◌, ℕ, ◌<◌, ◌≤◌, List, [], ◌∷◌, length, refl, sym, ap, subst, ◌∙◌, Some, None, inl, inr, arith}
+use Rattle.std.proofs.Common.{◌≡◌, ℕ, ◌≤◌, List, [], ◌∷◌, length, refl, sym, ap, subst, ◌∙◌, Some, None, inl, inr, arith}
 use Rattle.std.specs.Prelude.{Option}
 use Rattle.std.specs.List.{AllByRecursion}
 use Rattle.sp_lex.proofs.SourceLemmas.{one_fault, lines_exclude_fault}
@@ -14,7 +14,6 @@ use Rattle.sp_first.proofs.RightLaws.{one_reading}
 use Rattle.sp_cli.specs.declared.refusal.Input.{Input}
 use Rattle.sp_cli.specs.declared.refusal.Refusal.{Refusal}
 use Rattle.sp_cli.specs.declared.refusal.Refusal.TheVariants as refusal
-use Rattle.sp_cli.specs.Command.{Command}
 use Rattle.sp_cli.specs.Inputs.{Held, limit, IsWithin, RefusesFile}
 use Rattle.sp_cli.specs.Stages as stages
 use Rattle.sp_cli.specs.Stages.{Stage, stages_of, Passes, Refuses, RefusesProgram, FirstRow, RefusalsAreOne}

@@ -23,4 +23,3 @@ one_form words (Asm s i) (Verify s' t i') h g = let e : 97 ≡ 118 = ap letter (
 one_form words (Asm s i) (Run i' os) h g = let e : 97 ≡ 114 = ap letter (sym h.0 ∙ g.0) in absurd (omega (arith, e))
 one_form words (Run i os) (Verify s t i') h g = let e : 114 ≡ 118 = ap letter (sym h.0 ∙ g.0) in absurd (omega (arith, e))
 one_form words (Run i os) (Asm s i') h g = let e : 114 ≡ 97 = ap letter (sym h.0 ∙ g.0) in absurd (omega (arith, e))
-

@@ -6,7 +6,7 @@ use Rattle.sp_cli.specs.Command.{Command, image_name, AreHeld}
 use Rattle.sp_cli.specs.Inputs.{Held}
 use Rattle.sp_cli.specs.Space.{Took, ImageAfter, SinkAfter, IsTextOf}
 use Rattle.sp_cli.specs.Stages.{Accepts}
-use Rattle.sp_cli.specs.declared.status.Status.TheVariants.{Done, Refused, Usage, ReadFault, WriteFault, SinkFault, Memory, TooLong}
+use Rattle.sp_cli.specs.declared.status.Status.TheVariants.{Done, Refused, Usage, WriteFault, TooLong}
 
 -- what a status says of what the inputs held
 abbrev pub Says : Status → Command → Held → Output → Output → Type 0

@@ -1,6 +1,5 @@
 -- What a command makes before anything is written, and how its reads end.
-use Rattle.std.specs.Prelude.{◌≡◌, ◌≢◌, ◌⊎◌, ℕ, ◌≤◌, List, ◌++◌, length, Option, Some, None, tt, Result, Ok, Err, IsErrOf, IsTrue, Vec}
-use Rattle.std.specs.declared.alloc.Global.{Global}
+use Rattle.std.specs.Prelude.{◌≡◌, ◌⊎◌, ℕ, ◌≤◌, List, ◌++◌, length, Option, Some, None, Result, Ok, Err, IsErrOf}
 use Rattle.std.specs.FinMap as maps
 use Rattle.sp_base.specs.declared.calls.Outcome.{Outcome}
 use Rattle.sp_base.specs.declared.calls.Outcome.TheVariants as outcome

@@ -1,6 +1,6 @@
 -- How a put ends a command.
-use Rattle.std.specs.Prelude.{◌≡◌, ◌⊎◌, ℕ, List, ◌++◌, IsTrue}
-use Rattle.sp_base.specs.Files.{Output, Rose, IsFrontOf}
+use Rattle.std.specs.Prelude.{◌≡◌, ◌⊎◌, ℕ, List, IsTrue}
+use Rattle.sp_base.specs.Files.{Output, Rose}
 use Rattle.sp_cli.specs.declared.status.Status.{Status}
 use Rattle.sp_cli.specs.declared.status.Status.TheVariants.{SinkFault, Memory}
 use Rattle.sp_cli.specs.Space.{Took, TookFront}
