@@ -19,6 +19,3 @@ pub use laws::a_run_has_one_text;
 pub use parsing::read_options;
 pub use runs::run;
 pub use settings::{Flag, Options, Setting, Settings};
-
-#[cfg(test)]
-mod tests;

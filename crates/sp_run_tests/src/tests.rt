@@ -1,6 +1,6 @@
 //! Option words at their edges, and the texts of runs.
-use crate::{Flag, Options, Setting, Settings, is_in_form, read_options, run};
 use sp_base::{Image, Memory, Pair, Reg};
+use sp_run::{Flag, Options, Setting, Settings, is_in_form, read_options, run};
 use std::alloc::Global;
 use std::test::Fail;
 
@@ -24,7 +24,7 @@ fn options_of(alloc: Global, line: &str) -> Result<Option<Options>, Memory> {
 }
 
 /// Words that set one thing, and the setting.
-const SETTINGS: [(&str, Setting); 35] = [
+static SETTINGS: [(&str, Setting); 35] = [
     ("--set A=0", Setting::Register(Reg::A, 0)),
     ("--set a=255", Setting::Register(Reg::A, 255)),
     ("--set B=0FFH", Setting::Register(Reg::B, 255)),
@@ -67,17 +67,18 @@ const SETTINGS: [(&str, Setting); 35] = [
 
 #[test]
 fn each_thing_can_be_set(rt: HostRuntime) -> Result<(), Fail> {
-    for (line, setting) in SETTINGS {
-        let options = options_of(rt.alloc(), line)?.ok_or(line)?;
-        assert_eq!(rt; options.settings.as_slice(), [setting].as_slice(), "{line}");
-        assert_eq!(rt; options.pc, None, "{line}");
-        assert_eq!(rt; options.steps, 10_000, "{line}");
+    for (line, setting) in &SETTINGS {
+        let options = options_of(rt.alloc(), line)?.ok_or(*line)?;
+        assert!(rt;
+            options.settings.as_slice() == [*setting].as_slice(),
+            "{line}"
+        );
     }
     Ok(())
 }
 
 /// Words with the program counter and the steps that they give, and how many settings.
-const LINES: [(&str, Option<u16>, u32, usize); 17] = [
+static LINES: [(&str, Option<u16>, u32, usize); 17] = [
     ("", None, 10_000, 0),
     ("--pc 0", Some(0), 10_000, 0),
     ("--pc=0", Some(0), 10_000, 0),
@@ -109,17 +110,16 @@ const LINES: [(&str, Option<u16>, u32, usize); 17] = [
 
 #[test]
 fn options_are_read(rt: HostRuntime) -> Result<(), Fail> {
-    for (line, pc, steps, settings) in LINES {
-        let options = options_of(rt.alloc(), line)?.ok_or(line)?;
-        assert_eq!(rt; options.pc, pc, "{line}");
-        assert_eq!(rt; options.steps, steps, "{line}");
-        assert_eq!(rt; options.settings.as_slice().len(), settings, "{line}");
+    for (line, pc, steps, settings) in &LINES {
+        let options = options_of(rt.alloc(), line)?.ok_or(*line)?;
+        let given = (options.pc, options.steps, options.settings.as_slice().len());
+        assert!(rt; given == (*pc, *steps, *settings), "{line}");
     }
     Ok(())
 }
 
 /// Words in no form.
-const NO_FORMS: [&str; 74] = [
+static NO_FORMS: [&str; 74] = [
     "--pc",
     "--steps",
     "--set",
@@ -198,7 +198,7 @@ const NO_FORMS: [&str; 74] = [
 
 #[test]
 fn other_words_are_in_no_form(rt: HostRuntime) -> Result<(), Fail> {
-    for line in NO_FORMS {
+    for line in &NO_FORMS {
         let words = words_of(rt.alloc(), line)?;
         assert!(rt; !is_in_form(&words), "{line}");
     }
@@ -227,7 +227,7 @@ fn image_of(alloc: Global, bytes: &[u8]) -> Result<Image, Memory> {
 }
 
 /// A program from address 0 on, option words, and the text of the run.
-const RUNS: [(&[u8], &str, &str); 22] = [
+static RUNS: [(&[u8], &str, &str); 22] = [
     // HLT is counted, and a stuck step isn't
     (
         &[0x76],
@@ -354,9 +354,9 @@ const RUNS: [(&[u8], &str, &str); 22] = [
 #[test]
 fn runs_have_their_texts(rt: HostRuntime) -> Result<(), Fail> {
     let alloc = rt.alloc();
-    for (bytes, line, expected) in RUNS {
+    for (bytes, line, expected) in &RUNS {
         let image = image_of(alloc, bytes)?;
-        let options = options_of(alloc, line)?.ok_or(line)?;
+        let options = options_of(alloc, line)?.ok_or(*line)?;
         let text = run(alloc, &image, &options)?;
         assert!(rt; text.as_slice() == expected.as_bytes(), "{line}");
     }
