@@ -1,7 +1,8 @@
 #!/usr/bin/env bash
 # Tries the examples: verifies each that has NAME.scripts, assembles each that has NAME.asm.out, runs each that has NAME.run, and
 # tries each source and image of examples/refused. Images and printed texts must be those that stand beside the example.
-# Then it tries the transcripts that the documents show. What differs is named. SPACE8080 may name another program.
+# Then it tries the statuses that files and a sink with faults give, with what the wrapper says of them, and the transcripts
+# that the documents show. What differs is named. SPACE8080 may name another program.
 set -u
 cd "$(dirname "$0")/.." || exit 1
 export SPACE8080="${SPACE8080:-./space8080}"
@@ -58,7 +59,7 @@ must_refuse() {
     shift
     tried=$((tried + 1))
     rm -f "$image"
-    "$SPACE8080" "$@" > "$text"
+    "$SPACE8080" "$@" > "$text" 2> "$work/said"
     status=$?
     [ "$status" -eq 1 ] || complain "$2" "$1 ends with $status"
     [ ! -e "$image" ] || complain "$2" "refused, and an image was made"
@@ -95,6 +96,29 @@ must_say "refused Missing source" asm "$work/none" "$image"
 must_say "refused Missing image" run "$work/none"
 must_say "refused TooLarge source" asm "$large" "$image"
 must_say "refused TooLarge image" run "$large"
+
+# The words after the first two end with the status that the first names, put nothing, and what is said of it on standard error
+# has the text of the second.
+must_end() {
+    local wanted="$1" said="$2" status
+    shift 2
+    tried=$((tried + 1))
+    "$SPACE8080" "$@" > "$text" 2> "$work/said"
+    status=$?
+    [ "$status" -eq "$wanted" ] || complain "$*" "ends with $status, not $wanted"
+    [ ! -s "$text" ] || complain "$*" "put a text"
+    grep -q -F -- "$said" "$work/said" || complain "$*" "says another thing: $(cat "$work/said")"
+}
+
+mkdir "$work/folder"
+must_end 3 "could not be read: $work/folder" asm "$work/folder" "$image"
+must_end 3 "could not be read: $work/folder" verify examples/five/five.asm "$work/folder" "$image"
+must_end 3 "could not be read: $work/folder" run "$work/folder"
+must_end 4 "could not be written, or not whole: $work/none/image" asm examples/hello/hello.asm "$work/none/image"
+tried=$((tried + 1))
+"$SPACE8080" run examples/hello/hello.hex > /dev/full 2> "$work/said"
+[ "$?" -eq 5 ] || complain "run" "a full sink doesn't end with 5"
+grep -q "could not be printed" "$work/said" || complain "run" "says another thing of a full sink"
 
 echo "examples tried: $tried"
 tools/manual.sh || failed=1
