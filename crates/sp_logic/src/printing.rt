@@ -1,8 +1,8 @@
 ghost use Rattle.std.specs.Prelude.{◌≡◌, ◌++◌, IfOk, OnOk, decimal};
-ghost use Rattle.sp_logic.specs.View.{quantity_of, note_of};
-ghost use Rattle.sp_logic.specs.Text.{quantity_text, note_text};
+ghost use Rattle.sp_logic.specs.View.{moment_of, quantity_of, note_of};
+ghost use Rattle.sp_logic.specs.Text.{moment_mark, quantity_text, note_text};
 
-use crate::note::{Note, Quantity};
+use crate::note::{Moment, Note, Quantity};
 use crate::words::{
     comparison_sign, connective_word, location_name, middle, moment_mark, opening, pair_name,
     quantifier_words,
@@ -19,56 +19,56 @@ fn push_decimal(text: &mut Vec<u8>, n: u64) -> Result<(), Memory>
     Ok(())
 }
 
+/// Adds a name that is looked up at a moment.
+fn push_marked(text: &mut Vec<u8>, name: &str, moment: Moment) -> Result<(), Memory>
+    ensures { OnOk result (text.new.items ≡ text.old.items ++ (name.now ++ moment_mark (moment_of moment))) }
+{
+    text.extend_from_slice(name.as_bytes())?;
+    text.extend_from_slice(moment_mark(moment).as_bytes())?;
+    Ok(())
+}
+
+/// Adds a quantity between two texts.
+#[cycle(quantities)]
+fn push_part(text: &mut Vec<u8>, front: &str, part: &Quantity, back: &str) -> Result<(), Memory>
+    ensures { OnOk result (text.new.items
+        ≡ text.old.items ++ (front.now ++ quantity_text (quantity_of part.now) ++ back.now)) }
+{
+    text.extend_from_slice(front.as_bytes())?;
+    push_quantity(text, part)?;
+    text.extend_from_slice(back.as_bytes())?;
+    Ok(())
+}
+
 /// Adds a quantity.
+#[cycle(quantities)]
 fn push_quantity(text: &mut Vec<u8>, quantity: &Quantity) -> Result<(), Memory>
     ensures { OnOk result (text.new.items ≡ text.old.items ++ quantity_text (quantity_of quantity.now)) }
 {
     match quantity {
         Quantity::Literal(n) => push_decimal(text, *n)?,
         Quantity::Location(moment, location) => {
-            text.extend_from_slice(location_name(*location).as_bytes())?;
-            text.extend_from_slice(moment_mark(*moment).as_bytes())?;
+            push_marked(text, location_name(*location), *moment)?;
         }
-        Quantity::Pair(moment, pair) => {
-            text.extend_from_slice(pair_name(*pair).as_bytes())?;
-            text.extend_from_slice(moment_mark(*moment).as_bytes())?;
-        }
+        Quantity::Pair(moment, pair) => push_marked(text, pair_name(*pair), *moment)?,
         Quantity::Cell(moment, address) => {
-            text.extend_from_slice(b"mem")?;
-            text.extend_from_slice(moment_mark(*moment).as_bytes())?;
-            text.extend_from_slice(b"[")?;
-            push_quantity(text, address)?;
-            text.extend_from_slice(b"]")?;
+            push_marked(text, "mem", *moment)?;
+            push_part(text, "[", address, "]")?;
         }
         Quantity::StackWord(k) => {
             text.extend_from_slice(b"STK")?;
             push_decimal(text, u64::from(*k))?;
         }
         Quantity::Total(moment, first, last) => {
-            text.extend_from_slice(b"total")?;
-            text.extend_from_slice(moment_mark(*moment).as_bytes())?;
-            text.extend_from_slice(b"(")?;
-            push_quantity(text, first)?;
-            text.extend_from_slice(b", ")?;
-            push_quantity(text, last)?;
-            text.extend_from_slice(b")")?;
+            push_marked(text, "total", *moment)?;
+            push_part(text, "(", first, ", ")?;
+            push_part(text, "", last, ")")?;
         }
-        Quantity::Negative(part) => {
-            text.extend_from_slice(b"(-")?;
-            push_quantity(text, part)?;
-            text.extend_from_slice(b")")?;
-        }
-        Quantity::Parity(part) => {
-            text.extend_from_slice(b"par(")?;
-            push_quantity(text, part)?;
-            text.extend_from_slice(b")")?;
-        }
-        Quantity::Operate(operator, left, right) => {
-            text.extend_from_slice(opening(*operator).as_bytes())?;
-            push_quantity(text, left)?;
-            text.extend_from_slice(middle(*operator).as_bytes())?;
-            push_quantity(text, right)?;
-            text.extend_from_slice(b")")?;
+        Quantity::Negative(part) => push_part(text, "(-", part, ")")?,
+        Quantity::Parity(part) => push_part(text, "par(", part, ")")?,
+        Quantity::Operate(operator, first, second) => {
+            push_part(text, opening(*operator), first, middle(*operator))?;
+            push_part(text, "", second, ")")?;
         }
         Quantity::Bound(name) => text.extend_from_slice(name.as_slice())?,
     }
@@ -83,11 +83,8 @@ fn push_note(text: &mut Vec<u8>, note: &Note) -> Result<(), Memory>
         Note::Constant(true) => text.extend_from_slice(b"true")?,
         Note::Constant(false) => text.extend_from_slice(b"false")?,
         Note::Compare(comparison, left, right) => {
-            text.extend_from_slice(b"(")?;
-            push_quantity(text, left)?;
-            text.extend_from_slice(comparison_sign(*comparison).as_bytes())?;
-            push_quantity(text, right)?;
-            text.extend_from_slice(b")")?;
+            push_part(text, "(", left, comparison_sign(*comparison))?;
+            push_part(text, "", right, ")")?;
         }
         Note::Not(part) => {
             text.extend_from_slice(b"(not ")?;
