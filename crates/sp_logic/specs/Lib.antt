@@ -1,2 +1,4 @@
+pub mod Examples
 pub mod Text
 pub mod View
+pub mod WellFormed

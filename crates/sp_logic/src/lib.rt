@@ -3,12 +3,14 @@
 #![tactic(auto)]
 
 mod frame;
+mod laws;
 mod note;
 mod printing;
 mod raw_note;
 mod words;
 
 pub use frame::Frame;
+pub use laws::{notes_are_formed, notes_are_printed};
 pub use note::{
     Comparison, Connective, Moment, Note, Operator, Quantifier, Quantity, RegisterPair,
 };
