@@ -4,6 +4,7 @@
 
 mod arithmetic;
 mod evaluation;
+mod laws;
 mod memory;
 mod narrow;
 mod places;
@@ -13,4 +14,5 @@ mod setting;
 mod truth;
 
 pub use evaluation::{Seen, TooLong, holds};
+pub use laws::{bounds_are_of_all_parts, bounds_are_right, nodes_are_counted};
 pub use narrow::is_narrow;
