@@ -1,0 +1,10 @@
+//! Programs with their annotations: areas, routines and instructions, and the rules that they keep.
+#![tactic(auto)]
+
+mod area;
+mod routine;
+mod unit;
+
+pub use area::{Area, AreaKind, Areas};
+pub use routine::{Lists, Noted, Noteds, Places, Ports, Routine, Routines, Stmt, Stmts};
+pub use unit::Unit;
