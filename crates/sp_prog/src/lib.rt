@@ -2,9 +2,11 @@
 #![tactic(auto)]
 
 mod area;
+mod laws;
 mod routine;
 mod unit;
 
 pub use area::{Area, AreaKind, Areas};
+pub use laws::units_are_programs;
 pub use routine::{Lists, Noted, Noteds, Places, Ports, Routine, Routines, Stmt, Stmts};
 pub use unit::Unit;
