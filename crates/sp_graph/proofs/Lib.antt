@@ -1,0 +1,9 @@
+pub mod CountLemmas
+pub mod CutLemmas
+pub mod CycleLemmas
+pub mod MoveLemmas
+pub mod NextLemmas
+pub mod OrderLemmas
+pub mod SearchLemmas
+pub mod SortLemmas
+pub mod WalkLemmas

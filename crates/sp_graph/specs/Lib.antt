@@ -1,0 +1,4 @@
+pub mod Cycles
+pub mod Graph
+pub mod Walks
+pub mod code
