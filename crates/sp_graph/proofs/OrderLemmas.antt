@@ -1,9 +1,9 @@
 -- Where successors stand first, no walk is long.
-use Rattle.std.proofs.Common.{◌≡◌, ◌<◌, ℕ, ◌+◌, Bool, List, [], ◌∷◌, Option, None, Some, slice_get, length, refl, sym, ◌∙◌, arith, length-append, get_or, inl, inr}
+use Rattle.std.proofs.Common.{◌≡◌, ◌<◌, ℕ, ◌+◌, Bool, true, List, [], ◌∷◌, Option, None, Some, slice_get, length, refl, sym, ◌∙◌, arith, length-append, get_or, inl, inr}
 use Rattle.std.proofs.lemmas.Bool.{cases_order}
 use Rattle.std.proofs.lemmas.Option.{slice_get_within}
-use Rattle.sp_graph.specs.Graph.{InGraph, branch_in, way}
-use Rattle.sp_graph.specs.Walks.{Inside, NoLongWalk}
+use Rattle.sp_graph.specs.Graph.{InGraph, asserted_in, branch_in, way}
+use Rattle.sp_graph.specs.Walks.{Inside, IsCut, NoLongWalk}
 use Rattle.sp_graph.specs.Walks.Inside.{entry, assertion, onward}
 use Rattle.sp_graph.specs.Cycles.{SuccessorsFirst, Leads}
 use Rattle.sp_graph.specs.declared.graph.Node.{Node}
@@ -48,3 +48,16 @@ module _ (graph : List Node) (order : List ℕ) (sorted : SuccessorsFirst graph 
       let b = behind steps at i k.0 k.1 k.2 in
       let size = sorted.size in
       omega arith
+
+cut_option : (graph : List Node) (at : ℕ) (o : Option Node) → slice_get graph at ≡ o → asserted_in o ≡ true → at < length graph
+cut_option graph at None e a = cc
+cut_option graph at (Some node) e a = slice_get_within graph at node e
+
+-- from no cut point is a walk long
+pub no_walk_is_long :
+    (graph : List Node) (order : List ℕ) → SuccessorsFirst graph (length graph) order → InGraph graph → 0 < length graph →
+    (from : Option ℕ) → IsCut graph from → NoLongWalk graph from
+no_walk_is_long graph order sorted whole some None cut = no_long_walk graph order sorted None whole some (λ at e. cc)
+no_walk_is_long graph order sorted whole some (Some place) cut =
+    no_long_walk graph order sorted (Some place) whole some
+    (λ at e. let same : place ≡ at = cc in rw (← same) (cut_option graph place (slice_get graph place) refl cut))

@@ -1,3 +1,4 @@
+pub mod Answers
 pub mod Cycles
 pub mod Graph
 pub mod Walks

@@ -1,0 +1,42 @@
+ghost use Rattle.std.specs.Prelude.{◌≡◌, ◌<◌, ◌≤◌, ℕ, Option, IfOk, length};
+ghost use Rattle.sp_graph.specs.Answers.{GivesWalks, most_walks};
+ghost use Rattle.sp_graph.specs.Cycles.{HasNoCycle, SuccessorsFirst};
+ghost use Rattle.sp_graph.specs.Graph.{InGraph};
+ghost use Rattle.sp_graph.specs.Walks.{walks, IsCut, NoLongWalk};
+
+use crate::counting::{count, count_all};
+use crate::sorting::{Outcome, sort};
+use crate::{Node, Search, WalksRefusal};
+use sp_base::Memory;
+use std::alloc::Global;
+
+/// How many walks a routine may have.
+const MOST_WALKS: u64 = 65_536;
+
+/// The instructions of a graph in an order with successors first, where no cycle is without an assertion.
+fn order_of(alloc: Global, graph: &[Node]) -> Result<Vec<usize>, Memory>
+    requires cycles { HasNoCycle graph.now }
+    ensures { IfOk result (λ order. SuccessorsFirst graph.now (length graph.now) order.items) }
+{
+    let outcome = sort(alloc, graph, graph.len())?;
+    match outcome {
+        Outcome::Order(order) => Ok(order),
+        Outcome::Cycle(_) => unreachable!(),
+    }
+}
+
+/// The walks of a graph, one for each condition, where there are not too many.
+pub fn walks_in(alloc: Global, graph: Vec<Node>) -> Result<Search, WalksRefusal>
+    requires whole { InGraph graph.items }
+    requires some { 0 < length graph.items }
+    requires cycles { HasNoCycle graph.items }
+    ensures { GivesWalks (walks graph.items) result }
+{
+    let order = order_of(alloc, &graph)?;
+    let counts = count(alloc, &graph, &order)?;
+    let total = count_all(&graph, &order, &counts);
+    if total > MOST_WALKS {
+        return Err(WalksRefusal::TooMany(total));
+    }
+    Ok(Search::new(alloc, graph))
+}
