@@ -1,9 +1,9 @@
 -- The walks from each cut point in turn.
-use Rattle.std.proofs.Common.{◌≡◌, ◌<◌, ◌≤◌, ◌+◌, ◌-◌, ℕ, suc, arith, Bool, true, false, List, [], ◌∷◌, ◌++◌, Option, None, Some, slice_get, length, length-append, refl, ap, sym, ◌∙◌, if◌then◌else◌, map}
+use Rattle.std.proofs.Common.{◌≡◌, ◌<◌, ◌≤◌, ◌+◌, ◌-◌, ℕ, suc, arith, Bool, true, false, List, [], ◌++◌, None, Some, slice_get, length, length-append, refl, ap, if◌then◌else◌}
 use Rattle.std.specs.List.{filter, flat_map, range_with_len}
 use Rattle.std.proofs.lemmas.List.Folds.{flat_map-map}
 use Rattle.sp_graph.specs.Graph.{asserted_in}
-use Rattle.sp_graph.specs.Walks.{walks_from, walks_after, assertions_from, walks, cuts}
+use Rattle.sp_graph.specs.Walks.{walks_from, walks_after, assertions_from, walks}
 use Rattle.sp_graph.specs.code.Counts.{at_most}
 use Rattle.sp_graph.specs.declared.graph.Node.{Node}
 use Rattle.sp_graph.specs.declared.walk.Walk.{Walk}

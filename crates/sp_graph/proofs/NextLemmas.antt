@@ -1,8 +1,8 @@
 -- What is still to come once a walk was given, and at the next cut point.
-use Rattle.std.proofs.Common.{◌≡◌, ◌<◌, ◌≤◌, ◌+◌, ℕ, Bool, true, false, List, [], ◌∷◌, ◌++◌, Option, None, Some, slice_get, length, refl, ap, sym, ◌∙◌, append_assoc, Result, Ok, Err}
+use Rattle.std.proofs.Common.{◌≡◌, ◌<◌, ◌≤◌, ◌+◌, ℕ, true, false, List, [], ◌∷◌, ◌++◌, Option, Some, slice_get, length, refl, ap, sym, Result, Ok, Err}
 use Rattle.std.specs.Result.{OnErr}
 use Rattle.sp_graph.specs.Graph.{asserted_in}
-use Rattle.sp_graph.specs.Walks.{IsCut, NoLongWalk, walks_from, walks_after}
+use Rattle.sp_graph.specs.Walks.{NoLongWalk, walks_after}
 use Rattle.sp_graph.specs.code.Search.{Goes, Ready, Trail, coming_walks, still_to_come}
 use Rattle.sp_graph.specs.declared.graph.Node.{Node}
 use Rattle.sp_graph.specs.declared.search.Place.{Place}

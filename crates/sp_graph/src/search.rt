@@ -196,10 +196,7 @@ fn walk_here(
 {
     'moves: loop {
         match advance(graph, from, steps, *place)? {
-            Some(Move {
-                found,
-                place: next,
-            }) => {
+            Some(Move { found, place: next }) => {
                 *place = next;
                 if let Some(walk) = found {
                     return Ok(Some(walk));

@@ -1,7 +1,6 @@
-use Rattle.std.proofs.Common.{◌≡◌, ◌≤◌, ◌+◌, ◌∙◌, sym, refl, ap, arith, length, length-append, slice_get, true, false, Some, None}
+use Rattle.std.proofs.Common.{◌≡◌, ◌≤◌, ◌∙◌, sym, ap, arith, length, length-append, slice_get, true, Some, None}
 use Rattle.sp_graph.specs.Graph.{asserted_in}
-use Rattle.sp_graph.specs.Walks.{walks, walks_from, walks_after}
-use Rattle.sp_graph.specs.code.Counts.{at_most}
+use Rattle.sp_graph.specs.Walks.{walks_from, walks_after}
 use Rattle.sp_graph.specs.declared.walk.Walk.{Walk}
 use Rattle.sp_graph.proofs.CountLemmas.{counted_entry, counted_at}
 use Rattle.sp_graph.proofs.CutLemmas.{walks_split, no_walks_after, total_next, total_same}
@@ -14,8 +13,13 @@ cuts-init c = record {
   same =
       let entry = counted_entry c.args.graph.now c.args.order.now c.args.counts.now c.requires.order c.requires.whole c.requires.counted c.requires.some in
       let is = c.count_way-total.ensures in
-      omega (arith, entry, is, ap length (walks_split c.args.graph.now),
-      length-append (walks_from c.args.graph.now None) (walks_after c.args.graph.now 0));
+      omega (
+        arith,
+        entry,
+        is,
+        ap length (walks_split c.args.graph.now),
+        length-append (walks_from c.args.graph.now None) (walks_after c.args.graph.now 0),
+      );
 }
 
 pub cuts-preserved : goal.cuts-preserved

@@ -1,5 +1,4 @@
-use Rattle.std.proofs.Common.{None, sym, ◌∙◌, ◌++◌, ap}
-use Rattle.sp_graph.specs.Walks.{walks_after}
+use Rattle.std.proofs.Common.{None, sym}
 use Rattle.sp_graph.specs.code.Search.{still_to_come}
 use Rattle.sp_graph.proofs.CutLemmas.{walks_split}
 use Rattle.sp_graph.proofs.SearchLemmas.{ready_entry, start_entry}

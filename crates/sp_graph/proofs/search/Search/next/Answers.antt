@@ -1,4 +1,4 @@
-use Rattle.std.proofs.Common.{◌≡◌, ◌≤◌, ◌<◌, ◌∙◌, sym, ap, arith, length, slice_get, Some, true, false}
+use Rattle.std.proofs.Common.{◌≡◌, ◌<◌, ◌∙◌, sym, arith, length, slice_get, Some, true}
 use Rattle.sp_graph.specs.Graph.{asserted_in}
 use Rattle.sp_graph.specs.Walks.{NoLongWalk}
 use Rattle.sp_graph.proofs.NextLemmas.{on_err, still_the_same, one_less, ready_back, nothing_more, no_cut, next_cut, ready_cut}
@@ -20,10 +20,9 @@ returns-in-Some-clause-ok c =
 
 pub invariant_of-self-then-self-len : goal.invariant_of-self-then-self-len
 invariant_of-self-then-self-len c =
-    let n = rw (c.in-None.is, c.deref.ensures.value) at c.in_ok-walk.ensures.ok in
-    (
+    let n = rw (c.in-None.is, c.deref.ensures.value) at c.in_ok-walk.ensures.ok in (
       ready_back c.cuts.self-inside.graph.items c.cuts.self-inside.from c.cuts.self-inside.steps c.walk_here.new.steps
-      c.cuts.self-inside.place c.walk_here.new.place c.cuts.self-inside.rest c.cuts.invariant.ready.short n.0 n.1 n.2,
+          c.cuts.self-inside.place c.walk_here.new.place c.cuts.self-inside.rest c.cuts.invariant.ready.short n.0 n.1 n.2,
       c.cuts.invariant.short,
     )
 
@@ -46,19 +45,19 @@ cuts-preserved c =
           let cut : NoLongWalk graph (Some c.cuts.self-inside.rest) = c.cuts.invariant.short (Some c.cuts.self-inside.rest) a in
           rw w.self-inside-is (record {
             ready = ready_cut graph c.cuts.self-inside.from c.cuts.self-inside.steps c.walk_here.new.steps
-            c.cuts.self-inside.place c.walk_here.new.place c.cuts.self-inside.rest c.cuts.invariant.ready.short n.0 n.1 cut;
+                c.cuts.self-inside.place c.walk_here.new.place c.cuts.self-inside.rest c.cuts.invariant.ready.short n.0 n.1 cut;
             graph_same = c.cuts.invariant.graph_same;
             short = c.cuts.invariant.short;
             same = next_cut graph c.cuts.self-inside.from c.cuts.self-inside.steps c.walk_here.new.steps
-            c.cuts.self-inside.place c.walk_here.new.place c.cuts.self-inside.rest c.cuts.invariant.ready.short n.0 n.1 within a cut ∙ c.cuts.invariant.same;
+                c.cuts.self-inside.place c.walk_here.new.place c.cuts.self-inside.rest c.cuts.invariant.ready.short n.0 n.1 within a cut ∙ c.cuts.invariant.same;
           })
       | else-has_assertion w ↦
           rw w.self-inside-is (record {
             ready = ready_back graph c.cuts.self-inside.from c.cuts.self-inside.steps c.walk_here.new.steps
-            c.cuts.self-inside.place c.walk_here.new.place c.cuts.self-inside.rest c.cuts.invariant.ready.short n.0 n.1 n.2;
+                c.cuts.self-inside.place c.walk_here.new.place c.cuts.self-inside.rest c.cuts.invariant.ready.short n.0 n.1 n.2;
             graph_same = c.cuts.invariant.graph_same;
             short = c.cuts.invariant.short;
             same = no_cut graph c.cuts.self-inside.from c.cuts.self-inside.steps c.walk_here.new.steps
-            c.cuts.self-inside.place c.walk_here.new.place c.cuts.self-inside.rest c.cuts.invariant.ready.short n.0 n.1 n.2 within (sym (rw c.deref-in-None.ensures.value at c.has_assertion.ensures) ∙ w.if-has_assertion.false) ∙ c.cuts.invariant.same;
+                c.cuts.self-inside.place c.walk_here.new.place c.cuts.self-inside.rest c.cuts.invariant.ready.short n.0 n.1 n.2 within (sym (rw c.deref-in-None.ensures.value at c.has_assertion.ensures) ∙ w.if-has_assertion.false) ∙ c.cuts.invariant.same;
           })
     ]
