@@ -1,2 +1,3 @@
+pub mod ExampleLemmas
 pub mod MemberLemmas
 pub mod UnitLemmas

@@ -1,5 +1,5 @@
 -- Elements of lists that were mapped or joined, and relations between any two elements.
-use Rattle.std.proofs.Common.{◌≡◌, ◌⊎◌, inl, inr, ℕ, zero, suc, ◌+◌, ◌<◌, List, [], ◌∷◌, ◌++◌, length, length-append, map, get_or, Option, Some, None, refl, sym, ap, subst, ◌∙◌, arith, lit<}
+use Rattle.std.proofs.Common.{◌≡◌, ◌⊎◌, inl, inr, ℕ, zero, suc, ◌+◌, ◌<◌, List, [], ◌∷◌, ◌++◌, length, length-append, map, get_or, Option, Some, None, refl, sym, ap, subst, ◌∙◌, arith}
 use Rattle.std.specs.Prelude.{Contains, AllPairs, slice_get}
 use Rattle.std.specs.List.{filter_map, cons_option}
 use Rattle.std.proofs.Math.Path.{subst₂}
@@ -34,16 +34,16 @@ module _ {A B : Type 0} (f : A → B) where
   mapped [] y h = absurd (none y h)
   mapped (x ∷ xs) y h =
       elim (first_or_later (f x) y (map f xs) h) [
-        inl e ↦ (x, first x xs, e)
-      | inr rest ↦ let r = mapped xs y rest in (r.0, later x r.0 xs r.1, r.2)
+        | inl e ↦ (x, first x xs, e)
+        | inr rest ↦ let r = mapped xs y rest in (r.0, later x r.0 xs r.1, r.2)
       ]
 
   pub in_map : (xs : List A) (x : A) → Contains xs x → Contains (map f xs) (f x)
   in_map [] x h = absurd (none x h)
   in_map (y ∷ xs) x h =
       elim (first_or_later y x xs h) [
-        inl e ↦ subst (λ z. Contains (f y ∷ map f xs) (f z)) e (first (f y) (map f xs))
-      | inr rest ↦ later (f y) (f x) (map f xs) (in_map xs x rest)
+        | inl e ↦ subst (λ z. Contains (f y ∷ map f xs) (f z)) e (first (f y) (map f xs))
+        | inr rest ↦ later (f y) (f x) (map f xs) (in_map xs x rest)
       ]
 
 module _ {A B : Type 0} (h : A → Option B) where
@@ -52,8 +52,8 @@ module _ {A B : Type 0} (h : A → Option B) where
   kept_by x xs y more None e c = let r = more c in (r.0, later x r.0 xs r.1, r.2)
   kept_by x xs y more (Some z) e c =
       elim (first_or_later z y (filter_map h xs) c) [
-        inl same ↦ (x, first x xs, e ∙ ap (λ b. Some b) same)
-      | inr rest ↦ let r = more rest in (r.0, later x r.0 xs r.1, r.2)
+        | inl same ↦ (x, first x xs, e ∙ ap (λ b. Some b) same)
+        | inr rest ↦ let r = more rest in (r.0, later x r.0 xs r.1, r.2)
       ]
 
   -- what is kept comes from an element
@@ -90,7 +90,7 @@ module _ {A : Type 0} (R : A → A → Type 0) where
   pub same : (xs : List A) → AllPairs R xs → (x y : A) → Contains xs x → Contains xs y → ¬ R x y → ¬ R y x → x ≡ y
   same xs h x y i j unlike back =
       elim (cases_order i.0 j.0) [
-        inl e ↦ sym i.2 ∙ ap (λ k. get_or xs k x) e ∙ get_or_default xs j.0 x y j.1 ∙ j.2
-      | inr (inl lt) ↦ absurd (unlike (at xs h x y i j lt))
-      | inr (inr gt) ↦ absurd (back (at xs h y x j i gt))
+        | inl e ↦ sym i.2 ∙ ap (λ k. get_or xs k x) e ∙ get_or_default xs j.0 x y j.1 ∙ j.2
+        | inr (inl lt) ↦ absurd (unlike (at xs h x y i j lt))
+        | inr (inr gt) ↦ absurd (back (at xs h y x j i gt))
       ]

@@ -1,5 +1,5 @@
 -- What the definitions of runs ask of a program, for units.
-use Rattle.std.proofs.Common.{◌≡◌, ◌⊎◌, inl, inr, ℕ, ◌+◌, ◌<◌, All, List, [], ◌∷◌, ◌++◌, length, map, Option, Some, None, refl, sym, ap, subst, ◌∙◌, arith}
+use Rattle.std.proofs.Common.{◌≡◌, inl, inr, ℕ, ◌+◌, ◌<◌, List, [], ◌∷◌, length, map, Some, refl, sym, ap, subst, ◌∙◌, arith}
 use Rattle.std.specs.Prelude.{Contains, AllPairs, slice_get, flat_map, IsTrue}
 use Rattle.std.proofs.lemmas.List.Elements.{All-contains, Contains-append_left, Contains-append_right}
 use Rattle.sp_isa.specs.Code.{code, valid}
@@ -9,10 +9,10 @@ use Rattle.sp_prog.specs.declared.area.Area.{Area}
 use Rattle.sp_prog.specs.declared.routine.Routine.{Routine}
 use Rattle.sp_prog.specs.declared.routine.Stmt.{Stmt}
 use Rattle.sp_prog.specs.Program.{Program}
-use Rattle.sp_prog.specs.Rules.{address_of, first_address, size_of, HasBytes, HaveNoCommonByte, IsArea, IsInArea, IsFree, IsUnit, IsRoutine, IsStmt, instructions}
+use Rattle.sp_prog.specs.Rules.{first_address, size_of, HasBytes, HaveNoCommonByte, IsArea, IsInArea, IsFree, IsUnit, IsRoutine, IsStmt}
 use Rattle.sp_prog.specs.View.{area_of, listed_areas, stmt_of, routine_of, unit_of}
 use Rattle.sp_prog.specs.Laws.{InStack, HasNoByte, IsApart, IsOf, HasCode, UnitsArePrograms}
-use Rattle.sp_prog.proofs.MemberLemmas.{first_or_later, none, first, later, found, mapped, in_map, kept, across, of_first, of_second, same}
+use Rattle.sp_prog.proofs.MemberLemmas.{first_or_later, none, first, found, mapped, in_map, kept, across, of_first, of_second, same}
 
 -- ---- Instructions of routines
 
@@ -36,8 +36,8 @@ in_all : (routines : List Routine) (r : Routine) (s : Stmt) → Contains routine
 in_all [] r s of_r at_s = absurd (none r of_r)
 in_all (f ∷ routines) r s of_r at_s =
     elim (first_or_later f r routines of_r) [
-      inl e ↦ Contains-append_left f.code (flat_map code_of routines) s (subst (λ (x : Routine). Contains x.code s) (sym e) at_s)
-    | inr rest ↦ Contains-append_right f.code (flat_map code_of routines) s (in_all routines r s rest at_s)
+      | inl e ↦ Contains-append_left f.code (flat_map code_of routines) s (subst (λ (x : Routine). Contains x.code s) (sym e) at_s)
+      | inr rest ↦ Contains-append_right f.code (flat_map code_of routines) s (in_all routines r s rest at_s)
     ]
 
 -- two instructions of these routines that share a byte's address are one, in one routine
@@ -49,17 +49,17 @@ one_of (f ∷ routines) h r q i j of_r of_q at_i at_j unlike back =
     let R = HaveNoCommonByte in
     let more = flat_map code_of routines in
     elim (first_or_later f r routines of_r) [
-      inl e ↦
-        let i_first = subst (λ (x : Routine). Contains x.code i) (sym e) at_i in
-        elim (first_or_later f q routines of_q) [
-          inl also ↦ (sym e ∙ also, same R f.code (of_first R f.code more h) i j i_first (subst (λ (x : Routine). Contains x.code j) (sym also) at_j) unlike back)
-        | inr rest ↦ absurd (unlike (across R f.code more h i j i_first (in_all routines q j rest at_j)))
-        ]
-    | inr above ↦
-        elim (first_or_later f q routines of_q) [
-          inl also ↦ absurd (back (across R f.code more h j i (subst (λ (x : Routine). Contains x.code j) (sym also) at_j) (in_all routines r i above at_i)))
-        | inr rest ↦ one_of routines (of_second R f.code more h) r q i j above rest at_i at_j unlike back
-        ]
+      | inl e ↦
+          let i_first = subst (λ (x : Routine). Contains x.code i) (sym e) at_i in
+          elim (first_or_later f q routines of_q) [
+            | inl also ↦ (sym e ∙ also, same R f.code (of_first R f.code more h) i j i_first (subst (λ (x : Routine). Contains x.code j) (sym also) at_j) unlike back)
+            | inr rest ↦ absurd (unlike (across R f.code more h i j i_first (in_all routines q j rest at_j)))
+          ]
+      | inr above ↦
+          elim (first_or_later f q routines of_q) [
+            | inl also ↦ absurd (back (across R f.code more h j i (subst (λ (x : Routine). Contains x.code j) (sym also) at_j) (in_all routines r i above at_i)))
+            | inr rest ↦ one_of routines (of_second R f.code more h) r q i j above rest at_i at_j unlike back
+          ]
     ]
 
 -- ---- Areas
@@ -136,9 +136,9 @@ module _ (p : Program) (u : IsUnit p) where
       let within_a : k < size_of a.stmt = subst (λ (x : runs.Stmt). k < length (code x.instr)) (sym a.is_stmt) low in
       let within_b : m < size_of b.stmt = subst (λ (x : runs.Stmt). m < length (code x.instr)) (sym b.is_stmt) high in
       let meet : a.stmt.addr + k ≡ b.stmt.addr + m =
-          ap (λ (x : runs.Stmt). x.address + k) a.is_stmt ∙ e ∙ sym (ap (λ (x : runs.Stmt). x.address + m) b.is_stmt) in
+      ap (λ (x : runs.Stmt). x.address + k) a.is_stmt ∙ e ∙ sym (ap (λ (x : runs.Stmt). x.address + m) b.is_stmt) in
       let both = one_of p.routines u.apart a.routine b.routine a.stmt b.stmt a.among b.among a.within b.within
-          (λ h. h k m within_a within_b meet) (λ h. h m k within_b within_a (sym meet)) in
+      (λ h. h k m within_a within_b meet) (λ h. h m k within_b within_a (sym meet)) in
       (sym a.is_routine ∙ ap (routine_of p.areas) both.0 ∙ b.is_routine, sym a.is_stmt ∙ ap stmt_of both.1 ∙ b.is_stmt)
 
   pub has_code : HasCode (unit_of p)

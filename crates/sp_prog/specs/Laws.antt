@@ -1,5 +1,5 @@
 -- What the definitions of runs ask of a program, and each unit keeps.
-use Rattle.std.specs.Prelude.{◌≡◌, ℕ, ◌+◌, ◌<◌, ◌≤◌, List, length, Some, None, Contains, IsTrue}
+use Rattle.std.specs.Prelude.{◌≡◌, ℕ, ◌+◌, ◌<◌, ◌≤◌, length, None, Contains, IsTrue}
 use Rattle.std.specs.FinMap as maps
 use Rattle.sp_isa.specs.Code.{code, valid}
 use Rattle.sp_model.specs.Good.{InArea}
