@@ -1,7 +1,11 @@
 -- What the definitions of runs ask of a program, for units.
-use Rattle.std.proofs.Common.{◌≡◌, inl, inr, ℕ, ◌+◌, ◌<◌, List, [], ◌∷◌, length, map, Some, refl, sym, ap, subst, ◌∙◌, arith}
+use Rattle.std.proofs.Common.{◌≡◌, inl, inr, ℕ, ◌+◌, ◌<◌, List, [], ◌∷◌, length, map, Some, refl, sym, ap, subst, ◌∙◌, arith, lit<, ◌⊎◌, cond, filter, Bool, true, false}
 use Rattle.std.specs.Prelude.{Contains, AllPairs, slice_get, flat_map, IsTrue}
-use Rattle.std.proofs.lemmas.List.Elements.{All-contains, Contains-append_left, Contains-append_right}
+use Rattle.std.proofs.lemmas.List.Elements.{filter_passes, All-contains, Contains-append_left, Contains-append_right}
+use Rattle.sp_base.specs.declared.location.Loc.{Loc}
+use Rattle.sp_base.specs.declared.location.Loc.TheVariants as loc
+use Rattle.sp_base.specs.declared.locs.Locs.{Locs}
+use Rattle.sp_base.specs.Locs.{has}
 use Rattle.sp_isa.specs.Code.{code, valid}
 use Rattle.sp_model.specs.Good.{InArea}
 use Rattle.sp_model.specs.Unit as runs
@@ -10,9 +14,9 @@ use Rattle.sp_prog.specs.declared.routine.Routine.{Routine}
 use Rattle.sp_prog.specs.declared.routine.Stmt.{Stmt}
 use Rattle.sp_prog.specs.Program.{Program}
 use Rattle.sp_prog.specs.Rules.{first_address, size_of, HasBytes, HaveNoCommonByte, IsArea, IsInArea, IsFree, IsUnit, IsRoutine, IsStmt}
-use Rattle.sp_prog.specs.View.{area_of, listed_areas, stmt_of, routine_of, unit_of}
-use Rattle.sp_prog.specs.Laws.{InStack, HasNoByte, IsApart, IsOf, HasCode, UnitsArePrograms}
-use Rattle.sp_prog.proofs.MemberLemmas.{first_or_later, none, first, found, mapped, in_map, kept, across, of_first, of_second, same}
+use Rattle.sp_prog.specs.View.{all_locs, locs_of, area_of, listed_areas, stmt_of, routine_of, unit_of}
+use Rattle.sp_prog.specs.Laws.{InStack, HasNoByte, IsApart, IsOf, HasCode, UnitsArePrograms, ListsHaveTheirLocations}
+use Rattle.sp_prog.proofs.MemberLemmas.{later, first_or_later, none, first, found, mapped, in_map, kept, across, of_first, of_second, same}
 
 -- ---- Instructions of routines
 
@@ -146,3 +150,37 @@ module _ (p : Program) (u : IsUnit p) where
 
 pub units_are_programs : UnitsArePrograms
 units_are_programs = record { apart = is_apart; code = has_code }
+
+-- ---- Locations
+
+module _ {A : Type 0} (test : A → Bool) where
+  stays_by : (x y : A) (xs : List A) (t : Bool) → test y ≡ t → Contains xs x ⊎ (y ≡ x) → test x ≡ true → (Contains xs x → Contains (filter test xs) x)
+      → Contains (cond t (y ∷ filter test xs) (filter test xs)) x
+  stays_by x y xs true e (inl rest) passes more = later y x (filter test xs) (more rest)
+  stays_by x y xs false e (inl rest) passes more = more rest
+  stays_by x y xs true e (inr same) passes more = subst (λ z. Contains (z ∷ filter test xs) x) (sym same) (first x (filter test xs))
+  stays_by x y xs false e (inr same) passes more = let wrong : true ≡ false = sym passes ∙ ap test (sym same) ∙ e in cc
+
+  -- what passes the test stays
+  stays : (xs : List A) (x : A) → Contains xs x → test x ≡ true → Contains (filter test xs) x
+  stays [] x h passes = absurd (none x h)
+  stays (y ∷ xs) x h passes = stays_by x y xs (test y) refl (elim (first_or_later y x xs h) [ inl e ↦ inr e | inr rest ↦ inl rest ]) passes (λ rest. stays xs x rest passes)
+
+every_loc : (x : Loc) → Contains all_locs x
+every_loc loc.A = (0, lit< tt, refl)
+every_loc loc.B = (1, lit< tt, refl)
+every_loc loc.C = (2, lit< tt, refl)
+every_loc loc.D = (3, lit< tt, refl)
+every_loc loc.E = (4, lit< tt, refl)
+every_loc loc.H = (5, lit< tt, refl)
+every_loc loc.L = (6, lit< tt, refl)
+every_loc loc.S = (7, lit< tt, refl)
+every_loc loc.Z = (8, lit< tt, refl)
+every_loc loc.Ac = (9, lit< tt, refl)
+every_loc loc.P = (10, lit< tt, refl)
+every_loc loc.Cy = (11, lit< tt, refl)
+
+pub lists_have_their_locations : ListsHaveTheirLocations
+lists_have_their_locations locs x = (
+  (λ h. All-contains (λ y. has y locs ≡ true) (locs_of locs) x (filter_passes (λ y. has y locs) all_locs) h),
+  (λ h. stays (λ y. has y locs) all_locs x (every_loc x) h))

@@ -1,12 +1,15 @@
 -- What the definitions of runs ask of a program, and each unit keeps.
-use Rattle.std.specs.Prelude.{◌≡◌, ℕ, ◌+◌, ◌<◌, ◌≤◌, length, None, Contains, IsTrue}
+use Rattle.std.specs.Prelude.{◌≡◌, ◌↔◌, ℕ, ◌+◌, ◌<◌, ◌≤◌, length, None, Contains, IsTrue}
 use Rattle.std.specs.FinMap as maps
+use Rattle.sp_base.specs.declared.location.Loc.{Loc}
+use Rattle.sp_base.specs.declared.locs.Locs.{Locs}
+use Rattle.sp_base.specs.Locs.{has}
 use Rattle.sp_isa.specs.Code.{code, valid}
 use Rattle.sp_model.specs.Good.{InArea}
 use Rattle.sp_model.specs.Unit.{Area, Stmt, Routine, Unit}
 use Rattle.sp_prog.specs.Program.{Program}
 use Rattle.sp_prog.specs.Rules.{HasBytes, IsUnit}
-use Rattle.sp_prog.specs.View.{unit_of}
+use Rattle.sp_prog.specs.View.{locs_of, unit_of}
 
 -- an address of the stack region
 abbrev pub InStack : Unit → ℕ → Type 0
@@ -43,3 +46,7 @@ pub record HasCode (u : Unit) : Type 0 where
 pub record UnitsArePrograms : Type 0 where
   pub apart : (p : Program) → IsUnit p → IsApart (unit_of p)
   pub code : (p : Program) → IsUnit p → HasCode (unit_of p)
+
+-- the locations of a list are those of its set
+abbrev pub ListsHaveTheirLocations : Type 0
+ListsHaveTheirLocations = (locs : Locs) (x : Loc) → Contains (locs_of locs) x ↔ IsTrue (has x locs)
