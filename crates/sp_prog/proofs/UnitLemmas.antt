@@ -4,7 +4,6 @@ use Rattle.std.specs.Prelude.{Contains, AllPairs, slice_get, flat_map, IsTrue}
 use Rattle.std.proofs.lemmas.List.Elements.{filter_passes, All-contains, Contains-append_left, Contains-append_right}
 use Rattle.sp_base.specs.declared.location.Loc.{Loc}
 use Rattle.sp_base.specs.declared.location.Loc.TheVariants as loc
-use Rattle.sp_base.specs.declared.locs.Locs.{Locs}
 use Rattle.sp_base.specs.Locs.{has}
 use Rattle.sp_isa.specs.Code.{code, valid}
 use Rattle.sp_model.specs.Good.{InArea}
@@ -183,4 +182,5 @@ every_loc loc.Cy = (11, lit< tt, refl)
 pub lists_have_their_locations : ListsHaveTheirLocations
 lists_have_their_locations locs x = (
   (λ h. All-contains (λ y. has y locs ≡ true) (locs_of locs) x (filter_passes (λ y. has y locs) all_locs) h),
-  (λ h. stays (λ y. has y locs) all_locs x (every_loc x) h))
+  (λ h. stays (λ y. has y locs) all_locs x (every_loc x) h),
+)
