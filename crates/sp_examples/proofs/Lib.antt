@@ -7,6 +7,7 @@ pub mod GateLemmas
 pub mod GoodLemmas
 pub mod KeepsLemmas
 pub mod LoadLemmas
+pub mod NoteLemmas
 pub mod PortLemmas
 pub mod PushLemmas
 pub mod ReturnLemmas

@@ -11,6 +11,7 @@ ghost use Rattle.sp_model.specs.Good.{AllRunsAreGood, IsEntry, IsGood, IsGoodAt,
 ghost use Rattle.sp_model.specs.Note.{Note};
 ghost use Rattle.sp_model.specs.State.{State, IsState, next_instr, run, step};
 ghost use Rattle.sp_model.specs.Unit.{Area, Routine, Unit};
+ghost use Rattle.sp_examples.specs.Notes.{BindsEverywhere};
 ghost use Rattle.sp_examples.specs.States.{elsewhere, end_cells, left, ready, stopped, with_a, with_input, with_output, with_sp, with_z};
 ghost use Rattle.sp_examples.specs.Units.{IsEntryOf, IsFree, IsGoodOf, MayLeave, ReturnsAt, RunIsGood, a_is, alone, begin, bytes_of, caller, calling, entered, far, finish, given, guard, hop, hopping, landing, line, load, only, push, pushed_word, run_on, send, store, take, watch, write};
 
@@ -216,4 +217,10 @@ pub fn claims_grow_by_steps()
         × (((k : ℕ) → k ≤ n → ¬ IsReturnStep u r s (run s k)) → IsGoodAt u r s (run s (n + 1)))) }
     ensures returned { (u : Unit) (r : Routine) (s : State) (n m : ℕ)
         → IsGood u r s n → IsReturnStep u r s (run s n) → IsGood u r s m }
+{}
+
+/// A name stands in a note only where a quantifier of this name binds it, wherever in the note a number may stand. A
+/// quantifier binds its name inside, and not in its ends.
+pub fn notes_bind_their_names()
+    ensures { BindsEverywhere }
 {}
