@@ -8,6 +8,7 @@ pub mod GoodLemmas
 pub mod KeepsLemmas
 pub mod LoadLemmas
 pub mod NoteLemmas
+pub mod PartLemmas
 pub mod PortLemmas
 pub mod PushLemmas
 pub mod ReturnLemmas

@@ -1,6 +1,7 @@
--- Notes in which a name stands at each place where a number may stand.
-use Rattle.std.specs.Prelude.{ℕ, true, List, codes}
-use Rattle.sp_model.specs.Note.{Now, Quantity, Literal, Cell, Total, Negative, Parity, Operate, Add, Bound, Less, And, ForAll, ForSome, Note, Constant, Compare, Not, Connect, Quantify, IsClosed}
+-- Notes with a part in each place where one may stand.
+use Rattle.std.specs.Prelude.{◌≡◌, ◌↔◌, ℕ, pos, true, false, List, ◌∷◌, codes}
+use Rattle.sp_isa.specs.Core.{Core}
+use Rattle.sp_model.specs.Note.{Moment, Now, Operator, Comparison, Connective, Quantifier, Frame, Bindings, value, HoldsWith, Quantity, Literal, Cell, Total, Negative, Parity, Operate, Add, Bound, Less, And, ForAll, ForSome, Note, Constant, Compare, Not, Connect, Quantify, IsClosed}
 
 -- the bound names I and J
 abbrev pub I : Quantity
@@ -44,3 +45,43 @@ pub record BindsEverywhere : Type 0 where
   -- a quantifier binds its name inside, and not in its ends
   pub own_first_end : ¬ IsClosed (Quantify ForAll (codes "I") I (Literal 1) (Constant true))
   pub own_last_end : ¬ IsClosed (Quantify ForAll (codes "I") (Literal 1) I (Constant true))
+
+-- ---- Parts of notes stand for their numbers and truth values
+
+-- a quantity with a part in it has the same number if the part's number, n, is written instead
+abbrev pub HasPart : (Quantity → Quantity) → Type 0
+HasPart quantity =
+    (f : Frame) (b : Bindings) (entry now : Core) (x : Quantity) (n : ℕ) → value f b x entry now ≡ pos n
+    → value f b (quantity x) entry now ≡ value f b (quantity (Literal n)) entry now
+
+-- so has a note
+abbrev pub HasNumber : (Quantity → Note) → Type 0
+HasNumber note =
+    (f : Frame) (b : Bindings) (entry now : Core) (x : Quantity) (n : ℕ) → value f b x entry now ≡ pos n
+    → HoldsWith f b (note x) entry now ↔ HoldsWith f b (note (Literal n)) entry now
+
+-- and a note with another in it is the same if that one's truth value is written instead
+abbrev pub HasTruth : (Note → Note) → Type 0
+HasTruth note =
+    (f : Frame) (b : Bindings) (entry now : Core) (p : Note)
+    → (HoldsWith f b p entry now → HoldsWith f b (note p) entry now ↔ HoldsWith f b (note (Constant true)) entry now)
+    × ((¬ HoldsWith f b p entry now) → HoldsWith f b (note p) entry now ↔ HoldsWith f b (note (Constant false)) entry now)
+
+pub record StandForValues : Type 0 where
+  pub cell : (m : Moment) → HasPart (Cell m)
+  pub low : (m : Moment) (y : Quantity) → HasPart (λ x. Total m x y)
+  pub high : (m : Moment) (y : Quantity) → HasPart (Total m y)
+  pub negative : HasPart Negative
+  pub parity : HasPart Parity
+  pub first : (o : Operator) (y : Quantity) → HasPart (λ x. Operate o x y)
+  pub second : (o : Operator) (y : Quantity) → HasPart (Operate o y)
+  pub left : (c : Comparison) (y : Quantity) → HasNumber (λ x. Compare c x y)
+  pub right : (c : Comparison) (y : Quantity) → HasNumber (Compare c y)
+  pub first_end : (q : Quantifier) (name : List ℕ) (y : Quantity) (p : Note) → HasNumber (λ x. Quantify q name x y p)
+  pub last_end : (q : Quantifier) (name : List ℕ) (y : Quantity) (p : Note) → HasNumber (λ x. Quantify q name y x p)
+  pub denied : HasTruth Not
+  pub left_note : (c : Connective) (q : Note) → HasTruth (λ p. Connect c p q)
+  pub right_note : (c : Connective) (q : Note) → HasTruth (Connect c q)
+  -- for all or some I from a number to itself: what is inside, with this number for I
+  pub inside : (f : Frame) (b : Bindings) (entry now : Core) (q : Quantifier) (name : List ℕ) (x : Quantity) (p : Note)
+      → HoldsWith f b (Quantify q name x x p) entry now ↔ HoldsWith f ((name, value f b x entry now) ∷ b) p entry now
