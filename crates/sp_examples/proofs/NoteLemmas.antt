@@ -1,5 +1,5 @@
 -- Where bound names stand, by example.
-use Rattle.std.proofs.Common.{◌≡◌, ℕ, zero, suc, ◌<◌, true, List, [], ◌∷◌, get_or, refl, ap, arith, lit<}
+use Rattle.std.proofs.Common.{◌≡◌, ℕ, zero, suc, true, List, [], ◌∷◌, get_or, refl, ap, arith, lit<}
 use Rattle.std.specs.Prelude.{Contains, codes}
 use Rattle.sp_model.specs.Note.{Now, Quantity, Literal, Cell, Total, Negative, Parity, Operate, Add, Less, And, ForSome, Note, Constant, Compare, Not, Connect, Quantify, IsClosed}
 use Rattle.sp_examples.specs.Notes.{I, J, all_I, below, BindsAt, BindsEverywhere}

@@ -1,9 +1,8 @@
 -- Parts of notes stand for their numbers and truth values.
-use Rattle.std.proofs.Common.{◌≡◌, ℕ, true, false, List, ◌∷◌, pos, ℤ, refl, sym, ap, subst, inl, inr, arith}
+use Rattle.std.proofs.Common.{◌≡◌, true, false, ◌∷◌, pos, ℤ, refl, sym, ap, subst, inl, inr, arith}
 use Rattle.std.specs.Prelude.{◌↔◌, ◌≤ℤ◌, neg_ℤ}
 use Rattle.std.proofs.lemmas.Int.{ints}
-use Rattle.sp_isa.specs.Core.{Core}
-use Rattle.sp_model.specs.Note.{Moment, Frame, Bindings, Quantity, Literal, Operator, Comparison, Connective, And, Or, Implies, Iff, Connects, Quantifier, ForAll, ForSome, Note, Quantify, Constant, core_at, shown, value, calculate, Compares, Quantifies, HoldsWith}
+use Rattle.sp_model.specs.Note.{Connective, And, Or, Implies, Iff, Connects, Quantifier, ForAll, ForSome, core_at, shown, value, calculate, Compares, Quantifies, HoldsWith}
 use Rattle.sp_base.specs.Integers.{sum_between, parity}
 use Rattle.sp_examples.specs.Notes.{StandForValues}
 

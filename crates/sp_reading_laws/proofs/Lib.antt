@@ -1,0 +1,2 @@
+pub mod AssemblyLemmas
+pub mod SourceLemmas
