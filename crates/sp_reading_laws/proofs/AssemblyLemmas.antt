@@ -1,8 +1,9 @@
 -- Assemblies and refusals of small sources, from what is computed of them.
-use Rattle.std.proofs.Common.{◌≡◌, ℕ, ◌%◌, ◌<◌, ◌≤◌, Bool, true, false, List, [], ◌∷◌, ◌++◌, map, Option, Some, None, Result, Ok, Err, refl, sym, subst, ◌∙◌, inl, inr, append_assoc, lit<}
+use Rattle.std.proofs.Common.{◌≡◌, ℕ, ◌%◌, ◌<◌, ◌≤◌, Bool, true, false, List, [], ◌∷◌, ◌++◌, map, Option, Some, None, Ok, Err, refl, sym, subst, ◌∙◌, inl, inr, append_assoc}
 use Rattle.std.proofs.lemmas.List.{append-nil}
-use Rattle.std.specs.Prelude.{nat_eq, IsSome, Contains, if◌then◌else◌, is_some}
+use Rattle.std.specs.Prelude.{nat_eq, if◌then◌else◌, is_some}
 use Rattle.std.specs.List.{IsDistinct}
+use Rattle.sp_base.specs.declared.refused.Refused.TheVariants as refused
 use Rattle.sp_lex.specs.declared.token.SourceLine.{SourceLine}
 use Rattle.sp_lex.specs.code.Lines.{lines_of}
 use Rattle.sp_lex.proofs.SourceLemmas.{lines_found}
@@ -14,22 +15,21 @@ use Rattle.sp_expr.specs.Undefined.{first_undefined}
 use Rattle.sp_expr.proofs.TreeLaws.{sentence_is_spelled}
 use Rattle.sp_expr.proofs.ValueLaws.{value_is}
 use Rattle.sp_stmt.specs.declared.operand.Operand.{Operand}
-use Rattle.sp_stmt.specs.declared.refusal.StatementKind.{StatementKind}
 use Rattle.sp_stmt.specs.declared.refusal.StatementKind.TheVariants as unread
 use Rattle.sp_stmt.specs.declared.statement.Statement as statements
 use Rattle.sp_stmt.specs.code.Reading.{statements_of}
-use Rattle.sp_stmt.specs.Source.{AreStatementsOf, IsUnread}
-use Rattle.sp_stmt.proofs.SourceLemmas.{from_ok, unread_at, fault}
+use Rattle.sp_stmt.proofs.SourceLemmas.{fault, from_ok, right_by}
 use Rattle.sp_asm.specs.declared.refusal.AsmKind.{AsmKind}
-use Rattle.sp_asm.specs.declared.refusal.AsmKind.TheVariants.{TooDeep, Later, Undefined, ZeroDivisor}
-use Rattle.sp_asm.specs.Assembly.{Place, Row, IsPlaced, ArePlaced, IsRow, IsAssembly, HasPlaceValue, address_after, addresses_of, is_duplicate, names_above, names_at, next_address, places_of, uses_names_above}
+use Rattle.sp_asm.specs.declared.refusal.AsmKind.TheVariants.{TooDeep}
+use Rattle.sp_asm.specs.Assembly.{Place, Row, IsPlaced, IsRow, HasPlaceValue, address_after, addresses_of, is_duplicate, names_above, names_at, next_address, places_of, uses_names_above}
 use Rattle.sp_asm.specs.Names.{defines}
-use Rattle.sp_asm.specs.Refusals.{BreaksPlace, BreaksRow, FirstRound, SecondRound}
+use Rattle.sp_asm.specs.Refusals.{FirstRound, SecondRound}
 use Rattle.sp_asm.specs.Source.{HasAssembly, IsRefused}
 use Rattle.sp_asm.specs.Values.{HasValue, HasNoValue, OneIsWithoutValue}
 use Rattle.sp_asm.specs.code.Passes.{Declares, fault_of}
-use Rattle.sp_asm.proofs.FaultLaws.{Faults, fault_is}
+use Rattle.sp_asm.proofs.FaultLaws.{fault_is}
 use Rattle.sp_asm.proofs.PlaceLaws as place
+use Rattle.sp_asm.proofs.RoundLaws.{first_is_cause, second_is_answer}
 use Rattle.sp_asm.proofs.RowLaws as row
 use Rattle.sp_asm.proofs.SplitLaws.{AllSplits, splits_empty, splits_more}
 
@@ -42,7 +42,7 @@ module _ (names : List ℕ → Option ℕ) (here : ℕ) (ws : List Word) (senten
       record { defined = defined; tree = t.0; spells = t.1; value_is = sym (value_is Statement names here ws t.0 t.1) ∙ is }
 
   pub divided : first_undefined names ws ≡ None → finished (run names here start ws) ≡ None → HasNoValue names here ws
-  divided defined is = let t = sentence_is_spelled Statement ws sentence in inr (defined, t.0, t.1, sym (value_is Statement names here ws t.0 t.1) ∙ is)
+  divided defined is = let t = sentence_is_spelled Statement ws sentence in inr (defined, (t.0, t.1, sym (value_is Statement names here ws t.0 t.1) ∙ is))
 
 pub unnamed : (names : List ℕ → Option ℕ) (here : ℕ) (ws : List Word) (name : List ℕ) → first_undefined names ws ≡ Some name → HasNoValue names here ws
 unnamed names here ws name is = inl (name, is)
@@ -90,7 +90,21 @@ module _ (source : List ℕ) (lines : List SourceLine) (read : lines_of source �
   }
 
   pub too_deep : (at : ℕ) → statements_of source lines ≡ Err (fault unread.TooDeep at) → IsRefused source at TooDeep
-  too_deep at are = record { lines = lines; read = lines_found source lines read; cause = unread_at source lines at unread.TooDeep are }
+  too_deep at are = record { lines = lines; read = lines_found source lines read; cause = right_by source lines (Err (refused.At (record { 0 = at }) unread.TooDeep)) are }
+
+  pub refused_first : (all : Statements) (at : ℕ) (kind : AsmKind) → statements_of source lines ≡ Ok all → FirstRound all at kind → IsRefused source at kind
+  refused_first all at kind are round = record {
+    lines = lines;
+    read = lines_found source lines read;
+    cause = first_is_cause source lines all (from_ok source 1 lines all are) (refused.At (record { 0 = at }) kind) round;
+  }
+
+  pub refused_second : (all : Statements) (at : ℕ) (kind : AsmKind) → statements_of source lines ≡ Ok all → SecondRound all at kind → IsRefused source at kind
+  refused_second all at kind are round = record {
+    lines = lines;
+    read = lines_found source lines read;
+    cause = second_is_answer source lines all (from_ok source 1 lines all are) (Err (refused.At (record { 0 = at }) kind)) round;
+  }
 
 -- the names that statements define, each with a value
 abbrev declared_by : Statements → List ℕ → Option ℕ
