@@ -4,7 +4,7 @@ use Rattle.std.specs.Prelude.{◌↔◌, ◌≤ℤ◌, neg_ℤ}
 use Rattle.std.proofs.lemmas.Int.{ints}
 use Rattle.sp_model.specs.Note.{Connective, And, Or, Implies, Iff, Connects, Quantifier, ForAll, ForSome, core_at, shown, value, calculate, Compares, Quantifies, HoldsWith}
 use Rattle.sp_base.specs.Integers.{sum_between, parity}
-use Rattle.sp_examples.specs.Notes.{StandForValues}
+use Rattle.sp_examples.specs.Notes.{HasOverlap, StandForValues}
 
 -- what holds of a number holds of an equal one
 along : (P : ℤ → Type 0) (x y : ℤ) → x ≡ y → P x ↔ P y
@@ -63,3 +63,6 @@ stand_for_values = record {
   where
     no_truth : false ≡ true → ⊥
     no_truth e = cc
+
+pub overlap : HasOverlap
+overlap = record { both = λ f entry now. refl; either = λ f entry now. refl; one = λ f entry now. refl }

@@ -1,7 +1,7 @@
 -- Notes with a part in each place where one may stand.
-use Rattle.std.specs.Prelude.{◌≡◌, ◌↔◌, ℕ, pos, true, false, List, ◌∷◌, codes}
+use Rattle.std.specs.Prelude.{◌≡◌, ◌↔◌, ℕ, pos, true, false, List, [], ◌∷◌, codes}
 use Rattle.sp_isa.specs.Core.{Core}
-use Rattle.sp_model.specs.Note.{Moment, Now, Operator, Comparison, Connective, Quantifier, Frame, Bindings, value, HoldsWith, Quantity, Literal, Cell, Total, Negative, Parity, Operate, Add, Bound, Less, And, ForAll, ForSome, Note, Constant, Compare, Not, Connect, Quantify, IsClosed}
+use Rattle.sp_model.specs.Note.{Moment, Now, Operator, Comparison, Connective, Quantifier, Frame, Bindings, value, HoldsWith, Quantity, Literal, Cell, Total, Negative, Parity, Operate, Add, BitAnd, BitOr, BitXor, Bound, Less, And, ForAll, ForSome, Note, Constant, Compare, Not, Connect, Quantify, IsClosed}
 
 -- the bound names I and J
 abbrev pub I : Quantity
@@ -85,3 +85,9 @@ pub record StandForValues : Type 0 where
   -- for all or some I from a number to itself: what is inside, with this number for I
   pub inside : (f : Frame) (b : Bindings) (entry now : Core) (q : Quantifier) (name : List ℕ) (x : Quantity) (p : Note)
       → HoldsWith f b (Quantify q name x x p) entry now ↔ HoldsWith f ((name, value f b x entry now) ∷ b) p entry now
+
+-- of 12 and 10 one bit is in both, three are in either, and two in one alone
+pub record HasOverlap : Type 0 where
+  pub both : (f : Frame) (entry now : Core) → value f [] (Operate BitAnd (Literal 12) (Literal 10)) entry now ≡ pos 8
+  pub either : (f : Frame) (entry now : Core) → value f [] (Operate BitOr (Literal 12) (Literal 10)) entry now ≡ pos 14
+  pub one : (f : Frame) (entry now : Core) → value f [] (Operate BitXor (Literal 12) (Literal 10)) entry now ≡ pos 6

@@ -11,7 +11,7 @@ ghost use Rattle.sp_model.specs.Good.{AllRunsAreGood, IsEntry, IsGood, IsGoodAt,
 ghost use Rattle.sp_model.specs.Note.{Note};
 ghost use Rattle.sp_model.specs.State.{State, IsState, next_instr, run, step};
 ghost use Rattle.sp_model.specs.Unit.{Area, Routine, Unit};
-ghost use Rattle.sp_examples.specs.Notes.{BindsEverywhere, StandForValues};
+ghost use Rattle.sp_examples.specs.Notes.{BindsEverywhere, HasOverlap, StandForValues};
 ghost use Rattle.sp_examples.specs.States.{elsewhere, end_cells, left, ready, stopped, with_a, with_input, with_output, with_sp, with_z};
 ghost use Rattle.sp_examples.specs.Units.{IsEntryOf, IsFree, IsGoodOf, MayLeave, ReturnsAt, RunIsGood, a_is, alone, begin, bytes_of, caller, calling, entered, far, finish, given, guard, hop, hopping, landing, line, load, only, push, pushed_word, run_on, send, store, take, watch, write};
 
@@ -229,4 +229,9 @@ pub fn notes_bind_their_names()
 /// names as the note: the note says the same if the number or the truth value is written instead.
 pub fn parts_stand_for_their_values()
     ensures { StandForValues }
+{}
+
+/// `band`, `bor` and `bxor` have the bits that are in both numbers, in either, and in one alone.
+pub fn notes_tell_bits_apart()
+    ensures { HasOverlap }
 {}
