@@ -13,6 +13,7 @@ use Rattle.sp_term.specs.Tree.{Tree, Truth}
 use Rattle.sp_term.specs.declared.shape.Shape.{Shape}
 use Rattle.sp_term.specs.declared.shape.Shape.TheVariants.{Truth}
 use Rattle.sp_term.specs.declared.pool.Entry.{Entry}
+use Rattle.sp_term.specs.Intervals.{interval}
 use Rattle.sp_term.specs.Pools.{tree_at, shape_tree, IsBelow, IsDistinct, IsPlace, IsAbsent, Grows}
 use Rattle.sp_term.specs.code.Table.{trees_in, IsTable, IsMade}
 use Rattle.sp_term.specs.contracts.shape.ShapePartialEq.TheImpl.{eq-value}
@@ -95,7 +96,7 @@ last_or : (k n : ℕ) → k < n + 1 → (k < n) ⊎ (k ≡ n)
 last_or k n h = grind arith
 
 made_grown : (old new : List Tree) (k : ℕ) (s : Shape) (e : Entry) → Grows old new → k < length old → IsMade old k s e → IsMade new k s e
-made_grown old new k s e g h m = record { below = m.below; tree = m.tree ∙ sym (shape_grown old new g s (shape_below s k (length old) h m.below)) }
+made_grown old new k s e g h m = record { below = m.below; tree = m.tree ∙ sym (shape_grown old new g s (shape_below s k (length old) h m.below)); span = m.span }
 
 distinct_pushed : (ts : List Tree) (t : Tree) → IsDistinct ts → IsAbsent ts t → IsDistinct (ts ++ t ∷ [])
 distinct_pushed ts t d a j k p q h =
@@ -112,14 +113,14 @@ distinct_pushed ts t d a j k p q h =
       ]
     ]
 
-pub table_pushed : (es : List (Shape × Entry)) (ts : List Tree) → trees_in es ≡ ts → IsTable es → (s : Shape) (e : Entry) → IsBelow (length ts) s → IsAbsent ts (shape_tree ts s) → e.term.now ≡ shape_tree ts s → IsTable (es ++ (s, e) ∷ [])
-table_pushed es ts v t s e b a tm =
+pub table_pushed : (es : List (Shape × Entry)) (ts : List Tree) → trees_in es ≡ ts → IsTable es → (s : Shape) (e : Entry) → IsBelow (length ts) s → IsAbsent ts (shape_tree ts s) → e.term.now ≡ shape_tree ts s → e.span ≡ interval (shape_tree ts s) → IsTable (es ++ (s, e) ∷ [])
+table_pushed es ts v t s e b a tm sp =
     let many : length ts ≡ length es = sym (ap length v) ∙ length-map es (λ e. e.1.term.now) in
     let new : trees_in (es ++ (s, e) ∷ []) ≡ ts ++ e.term.now ∷ [] = trees_pushed es s e ∙ ap (λ w. w ++ e.term.now ∷ []) v in
     let g = pushed_grows ts e.term.now in
     let gone : IsAbsent ts e.term.now = subst (IsAbsent ts) (sym tm) a in
     let old : (k : ℕ) (s' : Shape) (e' : Entry) → slice_get es k ≡ Some (s', e') → IsMade ts k s' e' = subst (λ w. (k : ℕ) (s' : Shape) (e' : Entry) → slice_get es k ≡ Some (s', e') → IsMade w k s' e') v t.made in
-    let last : IsMade (ts ++ e.term.now ∷ []) (length es) s e = record { below = subst (λ n. IsBelow n s) many b; tree = tm ∙ sym (shape_grown ts _ g s b) } in
+    let last : IsMade (ts ++ e.term.now ∷ []) (length es) s e = record { below = subst (λ n. IsBelow n s) many b; tree = tm ∙ sym (shape_grown ts _ g s b); span = sp ∙ ap interval (sym tm) } in
     let all : (k : ℕ) (s' : Shape) (e' : Entry) → slice_get (es ++ (s, e) ∷ []) k ≡ Some (s', e') → IsMade (ts ++ e.term.now ∷ []) k s' e' =
     λ k s' e' h. elim (last_or k (length es) (omega (arith, slice_get_within (es ++ (s, e) ∷ []) k (s', e') h, length-append es ((s, e) ∷ [])))) [
       | inl w ↦ made_grown ts _ k s' e' g (omega arith) (old k s' e' (sym (slice_get_left es (s, e) k w) ∙ h))
@@ -138,8 +139,8 @@ table_pushed es ts v t s e b a tm =
 inserted : (es : List (Shape × Entry)) (ts : List Tree) → trees_in es ≡ ts → IsTable es → (s : Shape) (e : Entry) → IsAbsent ts (shape_tree ts s) → insert_entry eq-value.it es s e ≡ es ++ (s, e) ∷ []
 inserted es ts v t s e a = insert_entry-absent eq-value.it s e es (absent_from_lookup (eq-value.it s) es (absent_key es ts v t s a))
 
-pub push_table : (es : List (Shape × Entry)) (ts : List Tree) → trees_in es ≡ ts → IsTable es → (s : Shape) (e : Entry) → IsBelow (length ts) s → IsAbsent ts (shape_tree ts s) → e.term.now ≡ shape_tree ts s → (new : List (Shape × Entry)) → new ≡ insert_entry eq-value.it es s e → IsTable new
-push_table es ts v t s e b a tm new h = subst IsTable (sym (h ∙ inserted es ts v t s e a)) (table_pushed es ts v t s e b a tm)
+pub push_table : (es : List (Shape × Entry)) (ts : List Tree) → trees_in es ≡ ts → IsTable es → (s : Shape) (e : Entry) → IsBelow (length ts) s → IsAbsent ts (shape_tree ts s) → e.term.now ≡ shape_tree ts s → e.span ≡ interval (shape_tree ts s) → (new : List (Shape × Entry)) → new ≡ insert_entry eq-value.it es s e → IsTable new
+push_table es ts v t s e b a tm sp new h = subst IsTable (sym (h ∙ inserted es ts v t s e a)) (table_pushed es ts v t s e b a tm sp)
 
 pub push_trees : (es : List (Shape × Entry)) (ts : List Tree) → trees_in es ≡ ts → IsTable es → (s : Shape) (e : Entry) → IsAbsent ts (shape_tree ts s) → e.term.now ≡ shape_tree ts s → (new : List (Shape × Entry)) → new ≡ insert_entry eq-value.it es s e → trees_in new ≡ ts ++ shape_tree ts s ∷ []
 push_trees es ts v t s e a tm new h = ap trees_in (h ∙ inserted es ts v t s e a) ∙ trees_pushed es s e ∙ (λ i. v i ++ tm i ∷ [])

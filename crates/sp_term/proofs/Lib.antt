@@ -3,6 +3,7 @@ pub mod EnvironmentLemmas
 pub mod FindLemmas
 pub mod FreeLemmas
 pub mod MemoryLemmas
+pub mod PartLemmas
 pub mod ReplaceLemmas
 pub mod ShapeEqualityLemmas
 pub mod ShapeLemmas

@@ -1,6 +1,8 @@
 pub mod Admissible
 pub mod Conditions
 pub mod Free
+pub mod Intervals
+pub mod Parts
 pub mod Pools
 pub mod Sorts
 pub mod Terms

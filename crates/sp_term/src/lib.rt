@@ -3,15 +3,18 @@
 
 mod cond;
 mod equality;
+mod interval;
 mod laws;
 mod pool;
 mod shape;
 mod substitution;
+mod taking;
 mod term;
 mod var;
 
 pub use cond::{Cond, MemFrame};
 pub use equality::same;
+pub use interval::Interval;
 pub use laws::{
     a_term_has_one_sort, adding_has_one_answer, environments_are_admissible,
     memories_change_in_one_place, nodes_and_depths_are_counted, quantifiers_bind_in_their_formulas,

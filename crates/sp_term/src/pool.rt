@@ -1,18 +1,21 @@
 ghost use Rattle.std.specs.Prelude.{◌≡◌, ◌<◌, ◌↔◌, ◌++◌, ◌∷◌, [], length, IfOk, IfSome, IfNone, OnErr, IsTrue};
 ghost use Rattle.sp_term.specs.Terms.{tree_of};
+ghost use Rattle.sp_term.specs.Intervals.{interval, literal as literal_of, is_memory_variable};
 ghost use Rattle.sp_term.specs.Pools.{tree_at, shape_tree, IsBelow, Grows, IsPlace, IsAdded, IsAbsent};
 
-use crate::{Kind, Node, Shape, Term, make};
+use crate::interval::{hull, is_memory, of_difference, of_multiple, of_quotient, of_remainder, of_sum, of_total, of_variable};
+use crate::{Interval, Kind, Node, Shape, Term, make};
 use bumpalo::Bump;
 use indexmap::IndexMap;
 use sp_base::Memory;
 use std::alloc::Global;
 use std::marker::Model;
 
-/// What a pool keeps of a node.
+/// What a pool keeps of a node: its term, and the interval of its tree.
 #[derive(Clone, Copy)]
 pub struct Entry<'a> {
     term: &'a Term<'a>,
+    span: Option<Interval>,
 }
 
 /// Nodes, each shape once and each after its parts. A contract sees it as the list of their trees.
@@ -65,9 +68,40 @@ impl<'a> Pool<'a> {
         self.entry(n).term
     }
 
+    /// The interval of the tree at a place. It was found when the node was added.
+    pub fn span(&self, n: Node) -> Option<Interval>
+        requires { n.0 < length self.now }
+        ensures { result ≡ interval (tree_at self.now n.0) }
+    {
+        self.entry(n).span
+    }
+
+    /// The number at a place, if a literal stands there.
+    pub fn literal(&self, n: Node) -> Option<i64>
+        requires { n.0 < length self.now }
+        ensures { result ≡ literal_of (tree_at self.now n.0) }
+    {
+        match self.term(n).kind() {
+            Kind::Literal(c) => Some(*c),
+            _ => None,
+        }
+    }
+
+    fn is_memory_variable(&self, n: Node) -> bool
+        requires { n.0 < length self.now }
+        ensures { result ≡ is_memory_variable (tree_at self.now n.0) }
+    {
+        match self.term(n).kind() {
+            Kind::Variable(v) => is_memory(*v),
+            _ => false,
+        }
+    }
+
+    #[tactic(auto, using(crate::proofs::TableLemmas::entry_span))]
     fn entry(&self, n: Node) -> Entry<'a>
         requires { n.0 < length self.now }
-        ensures { result.term.now ≡ tree_at self.now n.0 }
+        ensures term { result.term.now ≡ tree_at self.now n.0 }
+        ensures span { result.span ≡ interval (tree_at self.now n.0) }
     {
         match self.table.get_index(n.0) {
             Some((_, entry)) => *entry,
@@ -147,6 +181,31 @@ impl<'a> Pool<'a> {
         }
     }
 
+    /// The interval of a node.
+    fn shape_span(&self, shape: Shape) -> Option<Interval>
+        requires { IsBelow (length self.now) shape }
+        ensures { result ≡ interval (shape_tree self.now shape) }
+    {
+        match shape {
+            Shape::Literal(n) => Some(Interval { low: n, high: n }),
+            Shape::Variable(v) => of_variable(v),
+            Shape::Add(x, y) => of_sum(self.span(x), self.span(y)),
+            Shape::Subtract(x, y) => of_difference(self.span(x), self.span(y)),
+            Shape::Multiply(x, y) => of_multiple(self.literal(x), self.span(y)),
+            Shape::Divide(x, y) => of_quotient(self.span(x), self.literal(y)),
+            Shape::Remainder(_, y) => of_remainder(self.literal(y)),
+            Shape::ByteAnd(_, _) | Shape::ByteOr(_, _) | Shape::ByteXor(_, _) => {
+                Some(Interval { low: 0, high: 255 })
+            }
+            Shape::Parity(_) | Shape::Bit(_, _) => Some(Interval { low: 0, high: 1 }),
+            Shape::Psw(_, _, _, _, _) => Some(Interval { low: 2, high: 215 }),
+            Shape::If(_, x, y) | Shape::Update(x, _, y) => hull(self.span(x), self.span(y)),
+            Shape::Element(m, _) => self.span(m),
+            Shape::Total(m, _, _) => of_total(self.is_memory_variable(m)),
+            _ => None,
+        }
+    }
+
     /// The place of a node, if it stands in the pool.
     #[tactic(auto, using(crate::proofs::FindLemmas::found_place, crate::proofs::FindLemmas::absent_place))]
     fn find(&self, shape: Shape) -> Option<usize>
@@ -159,14 +218,15 @@ impl<'a> Pool<'a> {
 
     /// Appends a node that doesn't stand in the pool.
     #[tactic(auto, using(crate::proofs::FindLemmas::push_table, crate::proofs::FindLemmas::push_trees))]
-    fn push(&mut self, shape: Shape, term: &'a Term<'a>) -> Result<(), Memory>
+    fn push(&mut self, shape: Shape, entry: Entry<'a>) -> Result<(), Memory>
         requires below { IsBelow (length self.old) shape }
         requires absent { IsAbsent self.old (shape_tree self.old shape) }
-        requires term { term.now ≡ shape_tree self.old shape }
+        requires term { entry.term.now ≡ shape_tree self.old shape }
+        requires span { entry.span ≡ interval (shape_tree self.old shape) }
         ensures pushed { IfOk result (λ _. self.new ≡ self.old ++ shape_tree self.old shape ∷ []) }
         ensures err { OnErr result (self.new ≡ self.old) }
     {
-        let Ok(_) = self.table.insert(shape, Entry { term }) else {
+        let Ok(_) = self.table.insert(shape, entry) else {
             return Err(Memory);
         };
         Ok(())
@@ -183,174 +243,10 @@ impl<'a> Pool<'a> {
         if let Some(n) = self.find(shape) {
             return Ok(Node(n));
         }
+        let span = self.shape_span(shape);
         let term = make(self.arena, self.kind(shape))?;
         let n = self.len();
-        self.push(shape, term)?;
+        self.push(shape, Entry { term, span })?;
         Ok(Node(n))
-    }
-
-    /// The place of a term. Its parts that don't stand in the pool yet are appended; after `Memory` some of them may have
-    /// been.
-    #[cycle(take)]
-    pub fn take(&mut self, t: &Term) -> Result<Node, Memory>
-        ensures grows { Grows self.old self.new }
-        ensures place { IfOk result (λ n. IsPlace self.new t.now n.0) }
-    {
-        match t.kind() {
-            Kind::Literal(n) => self.add(Shape::Literal(*n)),
-            Kind::Truth(b) => self.add(Shape::Truth(*b)),
-            Kind::Variable(w) => self.add(Shape::Variable(*w)),
-            Kind::Add(x, y) => {
-                let x = self.take(x)?;
-                let y = self.take(y)?;
-                self.add(Shape::Add(x, y))
-            }
-            Kind::Subtract(x, y) => {
-                let x = self.take(x)?;
-                let y = self.take(y)?;
-                self.add(Shape::Subtract(x, y))
-            }
-            Kind::Multiply(x, y) => {
-                let x = self.take(x)?;
-                let y = self.take(y)?;
-                self.add(Shape::Multiply(x, y))
-            }
-            Kind::Divide(x, y) => {
-                let x = self.take(x)?;
-                let y = self.take(y)?;
-                self.add(Shape::Divide(x, y))
-            }
-            Kind::Remainder(x, y) => {
-                let x = self.take(x)?;
-                let y = self.take(y)?;
-                self.add(Shape::Remainder(x, y))
-            }
-            Kind::ByteAnd(x, y) => {
-                let x = self.take(x)?;
-                let y = self.take(y)?;
-                self.add(Shape::ByteAnd(x, y))
-            }
-            Kind::ByteOr(x, y) => {
-                let x = self.take(x)?;
-                let y = self.take(y)?;
-                self.add(Shape::ByteOr(x, y))
-            }
-            Kind::ByteXor(x, y) => {
-                let x = self.take(x)?;
-                let y = self.take(y)?;
-                self.add(Shape::ByteXor(x, y))
-            }
-            Kind::Parity(x) => {
-                let x = self.take(x)?;
-                self.add(Shape::Parity(x))
-            }
-            Kind::Bit(k, x) => {
-                let x = self.take(x)?;
-                self.add(Shape::Bit(*k, x))
-            }
-            Kind::Psw(s, z, ac, p, cy) => {
-                let (s, z, ac, p, cy) = self.take_five(s, z, ac, p, cy)?;
-                self.add(Shape::Psw(s, z, ac, p, cy))
-            }
-            Kind::If(p, x, y) => {
-                let (p, x, y) = self.take_three(p, x, y)?;
-                self.add(Shape::If(p, x, y))
-            }
-            Kind::Element(m, x) => {
-                let m = self.take(m)?;
-                let x = self.take(x)?;
-                self.add(Shape::Element(m, x))
-            }
-            Kind::Update(m, x, y) => {
-                let (m, x, y) = self.take_three(m, x, y)?;
-                self.add(Shape::Update(m, x, y))
-            }
-            Kind::Total(m, x, y) => {
-                let (m, x, y) = self.take_three(m, x, y)?;
-                self.add(Shape::Total(m, x, y))
-            }
-            Kind::Equal(x, y) => {
-                let x = self.take(x)?;
-                let y = self.take(y)?;
-                self.add(Shape::Equal(x, y))
-            }
-            Kind::Less(x, y) => {
-                let x = self.take(x)?;
-                let y = self.take(y)?;
-                self.add(Shape::Less(x, y))
-            }
-            Kind::LessOrEqual(x, y) => {
-                let x = self.take(x)?;
-                let y = self.take(y)?;
-                self.add(Shape::LessOrEqual(x, y))
-            }
-            Kind::Not(p) => {
-                let p = self.take(p)?;
-                self.add(Shape::Not(p))
-            }
-            Kind::And(p, q) => {
-                let p = self.take(p)?;
-                let q = self.take(q)?;
-                self.add(Shape::And(p, q))
-            }
-            Kind::Or(p, q) => {
-                let p = self.take(p)?;
-                let q = self.take(q)?;
-                self.add(Shape::Or(p, q))
-            }
-            Kind::Implies(p, q) => {
-                let p = self.take(p)?;
-                let q = self.take(q)?;
-                self.add(Shape::Implies(p, q))
-            }
-            Kind::Iff(p, q) => {
-                let p = self.take(p)?;
-                let q = self.take(q)?;
-                self.add(Shape::Iff(p, q))
-            }
-            Kind::ForAll(k, x, y, p) => {
-                let (x, y, p) = self.take_three(x, y, p)?;
-                self.add(Shape::ForAll(*k, x, y, p))
-            }
-            Kind::ForSome(k, x, y, p) => {
-                let (x, y, p) = self.take_three(x, y, p)?;
-                self.add(Shape::ForSome(*k, x, y, p))
-            }
-        }
-    }
-
-    #[cycle(take)]
-    fn take_three(&mut self, x: &Term, y: &Term, z: &Term) -> Result<(Node, Node, Node), Memory>
-        ensures grows { Grows self.old self.new }
-        ensures x { IfOk result (λ r. IsPlace self.new x.now r.0.0) }
-        ensures y { IfOk result (λ r. IsPlace self.new y.now r.1.0) }
-        ensures z { IfOk result (λ r. IsPlace self.new z.now r.2.0) }
-    {
-        let x = self.take(x)?;
-        let y = self.take(y)?;
-        let z = self.take(z)?;
-        Ok((x, y, z))
-    }
-
-    #[cycle(take)]
-    fn take_five(
-        &mut self,
-        s: &Term,
-        z: &Term,
-        ac: &Term,
-        p: &Term,
-        cy: &Term,
-    ) -> Result<(Node, Node, Node, Node, Node), Memory>
-        ensures grows { Grows self.old self.new }
-        ensures s { IfOk result (λ r. IsPlace self.new s.now r.0.0) }
-        ensures z { IfOk result (λ r. IsPlace self.new z.now r.1.0) }
-        ensures ac { IfOk result (λ r. IsPlace self.new ac.now r.2.0) }
-        ensures p { IfOk result (λ r. IsPlace self.new p.now r.3.0) }
-        ensures cy { IfOk result (λ r. IsPlace self.new cy.now r.4.0) }
-    {
-        let (s, z, ac) = self.take_three(s, z, ac)?;
-        let p = self.take(p)?;
-        let cy = self.take(cy)?;
-        Ok((s, z, ac, p, cy))
     }
 }
