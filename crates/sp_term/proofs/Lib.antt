@@ -1,7 +1,9 @@
 pub mod AddingLemmas
+pub mod CountLemmas
 pub mod EnvironmentLemmas
 pub mod FindLemmas
 pub mod FreeLemmas
+pub mod IntervalLemmas
 pub mod MemoryLemmas
 pub mod PartLemmas
 pub mod ReplaceLemmas

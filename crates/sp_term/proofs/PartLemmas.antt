@@ -1,5 +1,5 @@
 -- A list of trees that grows by some trees alone.
-use Rattle.std.proofs.Common.{ℕ, ◌+◌, ◌<◌, ◌≤◌, ◌≡◌, List, [], ◌∷◌, ◌++◌, length, sym, ◌∙◌, subst, arith, ◌⊎◌, inl, inr, ap, Result, Ok, Err, IfOk, OnErr}
+use Rattle.std.proofs.Common.{ℕ, ◌<◌, ◌≤◌, ◌≡◌, List, [], ◌∷◌, ◌++◌, length, sym, ◌∙◌, subst, arith, ◌⊎◌, inl, inr, ap, Result, Ok, Err, IfOk, OnErr}
 use Rattle.std.proofs.lemmas.List.{length-append}
 use Rattle.std.specs.List.{Contains}
 use Rattle.std.proofs.lemmas.List.Elements.{Contains-append_left, Contains-append_right}
@@ -34,8 +34,8 @@ added : (old new : List Tree) (t : Tree) (n : ℕ) → IsAdded old t new n → A
 added old new t n a = elim a [
   | inl p ↦ subst (λ w. AppendsOnly old w (t ∷ [])) (sym p.1) (none_appended old (t ∷ []))
   | inr p ↦ subst (λ w. AppendsOnly old w (t ∷ [])) (sym p.2) (record {
-        each = λ k low high. (0, (omega arith), sym (pushed_last old t) ∙ ap (tree_at (old ++ t ∷ [])) (omega (arith, length-append old (t ∷ []))));
-      })
+    each = λ k low high. (0, (omega arith), sym (pushed_last old t) ∙ ap (tree_at (old ++ t ∷ [])) (omega (arith, length-append old (t ∷ []))));
+  })
 ]
 
 under : (old new xs : List Tree) (t : Tree) → AppendsOnly old new xs → AppendsOnly old new (t ∷ xs)

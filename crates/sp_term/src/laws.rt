@@ -1,6 +1,6 @@
 //! What holds of trees, values and environments alone, as contracts of functions that do nothing.
 
-ghost use Rattle.std.specs.Prelude.{◌≡◌, ◌≢◌, ◌⊎◌, ◌↔◌, ℕ, ◌≤◌, ℤ, pos, ◌≤ℤ◌, Bool, true, false, IsTrue, List, [], ◌∷◌};
+ghost use Rattle.std.specs.Prelude.{◌≡◌, ◌≢◌, ◌⊎◌, ◌↔◌, ℕ, ◌≤◌, ℤ, pos, negsuc, ◌≤ℤ◌, IsTrue, List, [], ◌∷◌, length, Option, Some, None};
 ghost use Rattle.std.specs.FinMap as maps;
 ghost use Rattle.sp_base.specs.Image.{ImageMap};
 ghost use Rattle.sp_base.specs.declared.location.Loc.TheVariants as loc;
@@ -11,7 +11,14 @@ ghost use Rattle.sp_term.specs.Tree.{
   Literal,
   Variable,
   Add,
+  Subtract,
+  Multiply,
+  Divide,
+  Remainder,
+  ByteXor,
   Bit,
+  Psw,
+  If,
   Element,
   Update,
   Total,
@@ -25,6 +32,9 @@ ghost use Rattle.sp_term.specs.Tree.{
 ghost use Rattle.sp_term.specs.Sorts.{Sort, HasSort, sort_of};
 ghost use Rattle.sp_term.specs.Free.{is_free, IsClosed, replaced};
 ghost use Rattle.sp_term.specs.Value.{Env, value, whole, bind, assigned, int_of, map_of, IsTrueIn};
+ghost use Rattle.sp_term.specs.declared.interval.Interval.{Interval};
+ghost use Rattle.sp_term.specs.Intervals.{interval, from_to, fits};
+ghost use Rattle.sp_term.specs.Parts.{parts};
 ghost use Rattle.sp_term.specs.Pools.{IsDistinct, IsAdded};
 ghost use Rattle.sp_term.specs.Admissible.{Region, Change, IsAdmissible, zeros};
 
@@ -99,4 +109,47 @@ pub fn environments_are_admissible()
 pub fn adding_has_one_answer()
     ensures { (old one other : List Tree) (t : Tree) (m n : ℕ) → IsDistinct old → IsAdded old t one m → IsAdded old t other n →
         (one ≡ other) × (m ≡ n) }
+{}
+
+/// Which interval each form has, by examples: what differs from one to the next in one thing has another one, or none.
+pub fn intervals_follow_forms()
+    ensures literal { (interval (Literal (pos 9_223_372_036_854_775_807)) ≡ from_to (pos 9_223_372_036_854_775_807) (pos 9_223_372_036_854_775_807))
+        × (interval (Literal (pos 9_223_372_036_854_775_808)) ≡ None) }
+    ensures sum { let a = Variable (var.Now loc.A) in let most = Literal (pos 9_223_372_036_854_775_552) in
+        (interval (Add a most) ≡ from_to (pos 9_223_372_036_854_775_552) (pos 9_223_372_036_854_775_807))
+        × (interval (Add a (Literal (pos 9_223_372_036_854_775_553))) ≡ None)
+        × (interval (Add a (Variable (var.Any 1))) ≡ None) }
+    ensures difference { let a = Variable (var.Now loc.A) in let cy = Variable (var.Now loc.Cy) in
+        (interval (Subtract a cy) ≡ from_to (negsuc 0) (pos 255)) × (interval (Subtract cy a) ≡ from_to (negsuc 254) (pos 1)) }
+    ensures multiple { let a = Variable (var.Entry loc.A) in
+        (interval (Multiply (Literal (pos 2)) a) ≡ from_to (pos 0) (pos 510))
+        × (interval (Multiply (Literal (negsuc 1)) a) ≡ from_to (negsuc 509) (pos 0))
+        × (interval (Multiply a (Literal (pos 2))) ≡ None) }
+    ensures quotient { let x = Subtract (Variable (var.In 1)) (Literal (pos 1)) in
+        (interval (Divide x (Literal (pos 16))) ≡ from_to (negsuc 0) (pos 15)) × (interval (Divide x (Literal (pos 0))) ≡ None)
+        × (interval (Divide x (Literal (negsuc 15))) ≡ None) }
+    ensures remainder { let k = Variable (var.Any 1) in
+        (interval (Remainder k (Literal (pos 10))) ≡ from_to (pos 0) (pos 9)) × (interval (Remainder k (Literal (pos 0))) ≡ None)
+        × (interval (Remainder k (Literal (negsuc 9))) ≡ None) × (interval (Remainder k k) ≡ None) }
+    ensures choice { (p : Tree) → let k = Variable (var.Any 1) in
+        (interval (If p (Literal (pos 8)) (Literal (negsuc 2))) ≡ from_to (negsuc 2) (pos 8)) × (interval (If p (Literal (pos 8)) k) ≡ None) }
+    ensures cell { (x y z : Tree) → let m = Variable (var.MemAfter 1) in
+        (interval (Element m x) ≡ from_to (pos 0) (pos 255))
+        × (interval (Element (Update m y (Literal (pos 300))) x) ≡ from_to (pos 0) (pos 300))
+        × (interval (Element (Update m y (Variable (var.Bound 1))) x) ≡ None)
+        × (interval (Total m x z) ≡ from_to (pos 0) (pos 16_711_680)) × (interval (Total (Update m y (Literal (pos 0))) x z) ≡ None) }
+    ensures bytes { (x y z t u : Tree) → (interval (ByteXor x y) ≡ from_to (pos 0) (pos 255)) × (interval (Bit 3 x) ≡ from_to (pos 0) (pos 1))
+        × (interval (Psw x y z t u) ≡ from_to (pos 2) (pos 215)) }
+{}
+
+/// The ends of an interval are within 64 bits.
+pub fn intervals_are_within_64_bits()
+    ensures { (t : Tree) (i : Interval) → interval t ≡ Some i → IsTrue (fits i.low) × IsTrue (fits i.high) }
+{}
+
+/// A tree has as many parts, with itself, as nodes. Those of a sum are the sum, and the parts of its two sides.
+pub fn parts_are_counted_by_nodes()
+    ensures count { (t : Tree) → length (parts t) ≡ nodes t }
+    ensures sum { (k : ℕ) (n : ℤ) (v : Var) → parts (Add (Literal n) (Bit k (Variable v))) ≡
+        Add (Literal n) (Bit k (Variable v)) ∷ Literal n ∷ Bit k (Variable v) ∷ Variable v ∷ [] }
 {}

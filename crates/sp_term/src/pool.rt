@@ -3,7 +3,10 @@ ghost use Rattle.sp_term.specs.Terms.{tree_of};
 ghost use Rattle.sp_term.specs.Intervals.{interval, literal as literal_of, is_memory_variable};
 ghost use Rattle.sp_term.specs.Pools.{tree_at, shape_tree, IsBelow, Grows, IsPlace, IsAdded, IsAbsent};
 
-use crate::interval::{hull, is_memory, of_difference, of_multiple, of_quotient, of_remainder, of_sum, of_total, of_variable};
+use crate::interval::{
+    hull, is_memory, of_difference, of_multiple, of_quotient, of_remainder, of_sum, of_total,
+    of_variable,
+};
 use crate::{Interval, Kind, Node, Shape, Term, make};
 use bumpalo::Bump;
 use indexmap::IndexMap;
