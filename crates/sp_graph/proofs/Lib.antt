@@ -1,9 +1,12 @@
 pub mod CountLemmas
 pub mod CutLemmas
 pub mod CycleLemmas
+pub mod LayoutLemmas
 pub mod MoveLemmas
 pub mod NextLemmas
+pub mod NodeLemmas
 pub mod OrderLemmas
+pub mod PlaceLemmas
 pub mod SearchLemmas
 pub mod SortLemmas
 pub mod WalkLemmas

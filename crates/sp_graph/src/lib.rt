@@ -2,19 +2,29 @@
 //! order with successors first (this project's own).
 #![tactic(auto)]
 
+mod control;
 mod counting;
+mod edges;
 mod graph;
+mod list;
+mod nodes;
 mod path;
+mod places;
 mod refusal;
 mod routine;
 mod search;
 mod sorting;
 mod walk;
 
+pub use control::{Control, accesses, control_of};
 pub use counting::{count, count_all};
+pub use edges::successors;
 pub use graph::{Branch, End, Node, branch_at, has_assertion};
+pub use list::Walks;
+pub use nodes::graph_of;
+pub use places::{next_of, place_of, routine_at};
 pub use refusal::WalksRefusal;
-pub use routine::walks_in;
+pub use routine::{walks, walks_in};
 pub use search::Search;
 pub use sorting::{Outcome, sort};
-pub use walk::{Step, Steps, Walk};
+pub use walk::{Cut, Step, Steps, Walk};

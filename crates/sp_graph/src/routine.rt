@@ -2,12 +2,16 @@ ghost use Rattle.std.specs.Prelude.{◌≡◌, ◌<◌, ◌≤◌, ℕ, Option, 
 ghost use Rattle.sp_graph.specs.Answers.{GivesWalks, most_walks};
 ghost use Rattle.sp_graph.specs.Cycles.{HasNoCycle, SuccessorsFirst};
 ghost use Rattle.sp_graph.specs.Graph.{InGraph};
+ghost use Rattle.sp_graph.specs.Routines.{graph_of};
 ghost use Rattle.sp_graph.specs.Walks.{walks, IsCut, NoLongWalk};
 
 use crate::counting::{count, count_all};
+use crate::list::Walks;
+use crate::nodes::graph_of;
 use crate::sorting::{Outcome, sort};
 use crate::{Node, Search, WalksRefusal};
 use sp_base::Memory;
+use sp_prog::Unit;
 use std::alloc::Global;
 
 /// How many walks a routine may have.
@@ -39,4 +43,15 @@ pub fn walks_in(alloc: Global, graph: Vec<Node>) -> Result<Search, WalksRefusal>
         return Err(WalksRefusal::TooMany(total));
     }
     Ok(Search::new(alloc, graph))
+}
+
+/// The walks of a routine, one for each of its conditions, where there are not too many.
+pub fn walks<'u>(alloc: Global, unit: &'u Unit, routine: usize) -> Result<Walks<'u>, WalksRefusal>
+    requires place { routine < length unit.now.routines }
+    requires cycles { HasNoCycle (graph_of unit.now routine) }
+    ensures { GivesWalks (walks (graph_of unit.now routine)) result }
+{
+    let graph = graph_of(alloc, unit, routine)?;
+    let search = walks_in(alloc, graph)?;
+    Ok(Walks { unit, search })
 }

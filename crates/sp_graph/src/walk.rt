@@ -20,3 +20,12 @@ pub struct Walk {
     pub end: End,
     pub at: usize,
 }
+
+/// A cut point of a routine: a walk begins there.
+#[derive(Clone, Copy, Debug, PartialEq, Eq)]
+pub enum Cut {
+    /// The entry.
+    Entry,
+    /// An instruction with an assertion.
+    At(usize),
+}
