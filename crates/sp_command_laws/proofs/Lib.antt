@@ -1,0 +1,4 @@
+pub mod CommandLemmas
+pub mod FormLemmas
+pub mod StageLemmas
+pub mod TextLemmas
