@@ -1,0 +1,11 @@
+pub mod ConditionLemmas
+pub mod IntervalLemmas
+pub mod NodeLemmas
+pub mod OneLemmas
+pub mod ProductLemmas
+pub mod RemainderLemmas
+pub mod RootLemmas
+pub mod RowLemmas
+pub mod SortLemmas
+pub mod ValueLemmas
+pub mod WeightLemmas

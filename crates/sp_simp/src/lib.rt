@@ -1,0 +1,13 @@
+//! The simplifier of terms and conditions (this project's own).
+#![tactic(auto)]
+
+mod laws;
+mod relation;
+
+pub use laws::{
+    a_tree_has_one_simple_form, admissible_environments_are_in_ranges, conditions_keep_their_truth,
+    no_rule_adds_nodes, rules_by_example, rules_keep_values, simple_forms_keep_terms,
+    simple_forms_keep_values, simplified_conditions_by_example, terms_lie_in_their_intervals,
+    trees_are_compared,
+};
+pub use relation::Relation;
