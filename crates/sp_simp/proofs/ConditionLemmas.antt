@@ -1,11 +1,11 @@
 -- A simplified condition is true in the environments in which the condition is, and is one.
-use Rattle.std.proofs.Common.{◌≡◌, ◌⊎◌, inl, inr, refl, sym, ◌∙◌, ap, subst, Bool, true, false, ◌||◌, ◌&&◌, List, [], ◌∷◌, ◌++◌}
-use Rattle.std.specs.Prelude.{if◌then◌else◌, IsTrue, ◌↔◌, All}
+use Rattle.std.proofs.Common.{◌≡◌, inl, inr, refl, sym, ◌∙◌, ap, subst, Bool, true, false, ◌||◌, List, [], ◌∷◌, ◌++◌}
+use Rattle.std.specs.Prelude.{if◌then◌else◌, ◌↔◌, All}
 use Rattle.std.specs.List.{AllByRecursion, AllZip}
 use Rattle.std.proofs.lemmas.Bool.{or_cases, and_parts, and_from}
 use Rattle.std.proofs.lemmas.List.Elements.{All-from_recursion, recursion_from_All}
 use Rattle.sp_term.specs.Tree.{Tree, Truth, And}
-use Rattle.sp_term.specs.Sorts.{Sort, Formula, HasSort}
+use Rattle.sp_term.specs.Sorts.{Formula}
 use Rattle.sp_term.specs.Value.{Env, Value, value, IsTrueIn}
 use Rattle.sp_term.specs.Admissible.{Region, Condition, IsTrueAt}
 use Rattle.sp_simp.specs.Ranges.{IsInRanges}

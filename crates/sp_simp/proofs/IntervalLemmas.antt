@@ -1,17 +1,16 @@
 -- The value of a term lies in the interval of its form.
-use Rattle.std.proofs.Common.{ℕ, zero, suc, ◌+◌, ◌-◌, ◌*◌, ◌^◌, ◌/◌, ◌%◌, ◌≤◌, ◌<◌, ◌≡◌, ◌⊎◌, inl, inr, refl, sym, ◌∙◌, ap, subst, arith, Bool, true, false, ◌&&◌, ◌==◌, ℤ, pos, negsuc, Option, Some, None}
-use Rattle.std.specs.Prelude.{if◌then◌else◌, int_lt, int_le, ◌<ℤ◌, ◌≤ℤ◌, ◌+ℤ◌, ◌-ℤ◌, ◌*ℤ◌, bit_and, bit_or, bit_xor, count_ones, unsigned_abs}
+use Rattle.std.proofs.Common.{ℕ, zero, suc, ◌-◌, ◌*◌, ◌^◌, ◌%◌, ◌≤◌, ◌<◌, ◌≡◌, ◌⊎◌, inl, inr, refl, sym, ap, subst, arith, Bool, true, false, ◌&&◌, ◌==◌, ℤ, pos, negsuc, Option, Some, None}
+use Rattle.std.specs.Prelude.{if◌then◌else◌, int_lt, ◌≤ℤ◌, ◌+ℤ◌, ◌-ℤ◌, ◌*ℤ◌, bit_and, bit_or, bit_xor, count_ones}
 use Rattle.std.specs.Ordering.{int_eq}
-use Rattle.std.specs.Int.{int_min, int_max, int_rem_euclid}
+use Rattle.std.specs.Int.{int_min, int_max}
 use Rattle.std.specs.Int.Bits.{and_le_l, or_lt, xor_lt}
-use Rattle.std.proofs.lemmas.Bool.{and_parts}
 use Rattle.std.proofs.lemmas.Int.{ints, clamps, by_lt_z}
-use Rattle.sp_base.specs.Integers.{quotient, remainder, low_byte, byte_and, byte_or, byte_xor, parity, sum_from, sum_between, count_between}
+use Rattle.sp_base.specs.Integers.{quotient, remainder, low_byte, parity, sum_from, sum_between, count_between}
 use Rattle.sp_base.proofs.IntegerLemmas.{low_byte_below}
 use Rattle.sp_term.specs.declared.var.Var.{Var}
 use Rattle.sp_term.specs.declared.var.Var.TheVariants as var
 use Rattle.sp_term.specs.declared.interval.Interval.{Interval}
-use Rattle.sp_term.specs.Tree.{Tree, Literal, Truth, Variable, Add, Subtract, Multiply, Divide, Remainder, ByteAnd, ByteOr, ByteXor, Parity, Bit, Psw, If, Element, Update, Total, Equal, Less, LessOrEqual, Not, And, Or, Implies, Iff, ForAll, ForSome}
+use Rattle.sp_term.specs.Tree.{Tree, Literal, Variable, Add, Subtract, Multiply, Divide, Remainder, ByteAnd, ByteOr, ByteXor, Parity, Bit, Psw, If, Element, Update, Total}
 use Rattle.sp_term.specs.Sorts.{Sort, Int, Formula, Memory, sort_of, HasSort}
 use Rattle.sp_term.specs.Value.{Env, Value, value, int_of, map_of, bit, psw, low_bit, updated}
 use Rattle.sp_term.specs.Admissible.{Region, IsMemory, IsUpTo, greatest}

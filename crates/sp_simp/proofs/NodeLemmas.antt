@@ -1,5 +1,5 @@
 -- No rule makes a tree have more nodes.
-use Rattle.std.proofs.Common.{Some, ℕ, ◌+◌, ◌≤◌, ◌≡◌, refl, arith}
+use Rattle.std.proofs.Common.{Some, ◌+◌, ◌≤◌, ◌≡◌, refl, arith}
 use Rattle.std.specs.Prelude.{◌-ℤ◌}
 use Rattle.sp_term.specs.Tree.{Tree, nodes, Literal, Truth, Variable, Add, Subtract, Multiply, Divide, Remainder, ByteAnd, ByteOr, ByteXor, Parity, Bit, Psw, If, Element, Update, Total, Equal, Less, LessOrEqual, Not, And, Or, Implies, Iff, ForAll, ForSome}
 use Rattle.sp_simp.specs.declared.relation.Relation.{Relation}

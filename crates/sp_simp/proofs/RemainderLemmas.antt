@@ -1,10 +1,10 @@
 -- Division by a number above 0.
-use Rattle.std.proofs.Common.{ℕ, zero, suc, ◌+◌, ◌≤◌, ◌<◌, ◌≡◌, ◌≢◌, ◌⊎◌, inl, inr, refl, sym, ◌∙◌, ap, subst, arith, Bool, true, false, ℤ, pos, negsuc}
+use Rattle.std.proofs.Common.{◌≡◌, ◌≢◌, inl, inr, refl, sym, ◌∙◌, ap, subst, arith, Bool, true, false, ℤ, pos}
 use Rattle.std.specs.Prelude.{int_lt, int_le, ◌<ℤ◌, ◌≤ℤ◌, ◌+ℤ◌, ◌-ℤ◌, ◌*ℤ◌}
 use Rattle.std.proofs.lemmas.Int.{ints, by_lt_z}
 use Rattle.sp_base.specs.Integers.{quotient, remainder, IsDivision}
 use Rattle.sp_base.proofs.IntegerLemmas.{divides}
-use Rattle.sp_simp.proofs.ProductLemmas.{dist, dist_right, dist_sub, assoc, one-times, times-one, not_negative}
+use Rattle.sp_simp.proofs.ProductLemmas.{dist, dist_right, dist_sub, assoc, one-times, not_negative}
 use Rattle.std.proofs.Math.IntN.{*ℤ_comm, zero-*ℤ}
 
 pub le_true : (a b : ℤ) → a ≤ℤ b → int_le a b ≡ true

@@ -1,8 +1,8 @@
 -- What a tree is, of which the root is known.
-use Rattle.std.proofs.Common.{◌≤◌, arith, ◌≡◌, refl, sym, ◌∙◌, ap, subst, Option, Some, None, option_map, ℤ, pos, Bool, true, false}
+use Rattle.std.proofs.Common.{◌≤◌, arith, ◌≡◌, refl, sym, ◌∙◌, ap, subst, Option, Some, None, option_map, ℤ, Bool, true, false}
 use Rattle.std.specs.Ordering.{int_eq}
 use Rattle.std.proofs.lemmas.Bool.Decides.{Decides-int_eq, same_from_decides}
-use Rattle.sp_term.specs.Tree.{Tree, nodes, Literal, Truth, Variable, Add, Subtract, Multiply, Divide, Remainder, ByteAnd, ByteOr, ByteXor, Parity, Bit, Psw, If, Element, Update, Total, Equal, Less, LessOrEqual, Not, And, Or, Implies, Iff, ForAll, ForSome}
+use Rattle.sp_term.specs.Tree.{Tree, nodes, Literal, Truth, Add, Multiply, Divide, Remainder}
 use Rattle.sp_term.specs.Intervals.{literal}
 use Rattle.sp_simp.specs.Rules.{Right, when, first, truth, offset, multiple, divided, reduced, multiple_sum, reduced_sum, based, base}
 use Rattle.sp_simp.specs.Same.{tree_eq, tree_one, tree_same}

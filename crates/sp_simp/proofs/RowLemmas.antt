@@ -1,6 +1,6 @@
 -- Where a rule matches, one of the cases stands.
-use Rattle.std.proofs.Common.{ℕ, ◌≡◌, ◌⊎◌, inl, inr, refl, sym, ◌∙◌, ap, subst, Bool, true, false, ◌&&◌, ◌||◌, not, ◌==◌, ℤ, pos, neg_ℤ, Option, Some, None}
-use Rattle.std.specs.Prelude.{◌+ℤ◌, ◌-ℤ◌, ◌*ℤ◌, int_lt, int_le, if◌then◌else◌}
+use Rattle.std.proofs.Common.{ℕ, ◌≡◌, inl, inr, refl, sym, ◌∙◌, ap, subst, Bool, true, false, ◌&&◌, ◌||◌, not, ◌==◌, ℤ, pos, neg_ℤ, Option, Some, None}
+use Rattle.std.specs.Prelude.{◌+ℤ◌, ◌-ℤ◌, ◌*ℤ◌, int_lt, if◌then◌else◌}
 use Rattle.std.specs.Ordering.{int_eq}
 use Rattle.std.proofs.lemmas.Bool.{eqb-true, and_parts, or_cases}
 use Rattle.sp_base.specs.Integers.{quotient, remainder, byte_and, byte_or, byte_xor, parity}
@@ -10,7 +10,7 @@ use Rattle.sp_term.specs.declared.interval.Interval.{Interval}
 use Rattle.sp_term.specs.Intervals.{literal, interval, fits}
 use Rattle.sp_simp.specs.declared.relation.Relation.{Relation}
 use Rattle.sp_simp.specs.declared.relation.Relation.TheVariants as relation
-use Rattle.sp_simp.specs.Same.{tree_eq, tree_one, tree_same}
+use Rattle.sp_simp.specs.Same.{tree_eq, tree_one}
 use Rattle.sp_simp.specs.Rules as rules
 use Rattle.sp_simp.specs.Rules.{Right, Is, Made, MadePlus, MadeModulo, when, first, number, truth, offset, multiple, divided, reduced, multiple_sum, reduced_sum, base, compared, low_byte_of, is_number, is_within, is_divisor, is_beyond, are_parts, decided, verdict, is_reflexive, is_empty, is_known, are_apart, rule}
 use Rattle.sp_simp.specs.code.Rows.{Row, IsSum, row_fold_add, row_fold_subtract, row_fold_multiply, row_fold_divide, row_fold_remainder, row_fold_byte_and, row_fold_byte_or, row_fold_byte_xor, row_fold_parity, row_fold_bit, row_fold_flags, row_same_difference, row_literal_last, row_factor_first, row_plus_zero, row_minus_literal, row_join_offsets, row_left_offset_out, row_right_offset_out, row_whole_again, row_zero_times, row_one_times, row_join_factors, row_factor_in, row_over_one, row_small_quotient, row_quotient_of_multiple, row_modulo_one, row_small_remainder, row_remainder_twice, row_remainder_in_sum, row_offset_reduced, row_remainder_of_multiple, row_and_itself, row_or_itself, row_xor_itself, row_zero_and, row_and_zero, row_full_and, row_and_full, row_zero_or, row_or_zero, row_zero_xor, row_xor_zero, row_bit_seven, row_bit_six, row_bit_four, row_bit_two, row_bit_zero, row_bit_one, row_bit_three, row_bit_five, row_if_true, row_if_false, row_if_same, row_element_same, row_element_other, row_update_again, row_compare_same, row_compare_intervals, row_compare_left_offset, row_compare_right_offset, row_compare_offsets, row_compare_bases, row_equal_turned, row_choice_first, row_choice_second, row_choice_neither, row_not_truth, row_not_not, row_not_less_or_equal, row_not_less, row_true_and, row_and_true, row_false_and, row_and_false, row_and_same, row_false_or, row_or_false, row_true_or, row_or_true, row_or_same, row_true_implies, row_false_implies, row_implies_true, row_implies_false, row_implies_same, row_true_iff, row_iff_true, row_false_iff, row_iff_false, row_iff_same, row_for_all_true, row_for_all_empty, row_for_some_false, row_for_some_empty, row_empty_total, row_total_of_one}
@@ -381,10 +381,10 @@ chosen_row f x y z (Some c) (Some d) n h g k p e =
     let at : Equal (If f x y) z ≡ Equal (If f (Literal c) (Literal d)) (Literal n) = λ i. Equal (If f (literal_of x c h i) (literal_of y d g i)) (k i) in
     either (Row (Equal (If f x y) z)) (int_eq c d) _ _ p e (λ _ e0. absurd (cc)) (λ apart e1.
     either (Row (Equal (If f x y) z)) (int_eq c n) _ _ p e1
-      (λ s e2. just (Row (Equal (If f x y) z)) (Is f) p e2 (moved (at ∙ ap (λ m. Equal (If f (Literal c) (Literal d)) (Literal m)) (sym (int_one c n s))) (row_choice_first f c d apart)))
-      (λ first e2. either (Row (Equal (If f x y) z)) (int_eq d n) _ _ p e2
-        (λ s e3. just (Row (Equal (If f x y) z)) (Made (Not f)) p e3 (moved (at ∙ ap (λ m. Equal (If f (Literal c) (Literal d)) (Literal m)) (sym (int_one d n s))) (row_choice_second f c d apart)))
-        (λ second e3. just (Row (Equal (If f x y) z)) (Is (Truth false)) p e3 (moved at (row_choice_neither f c d n first second)))))
+    (λ s e2. just (Row (Equal (If f x y) z)) (Is f) p e2 (moved (at ∙ ap (λ m. Equal (If f (Literal c) (Literal d)) (Literal m)) (sym (int_one c n s))) (row_choice_first f c d apart)))
+    (λ first e2. either (Row (Equal (If f x y) z)) (int_eq d n) _ _ p e2
+    (λ s e3. just (Row (Equal (If f x y) z)) (Made (Not f)) p e3 (moved (at ∙ ap (λ m. Equal (If f (Literal c) (Literal d)) (Literal m)) (sym (int_one d n s))) (row_choice_second f c d apart)))
+    (λ second e3. just (Row (Equal (If f x y) z)) (Is (Truth false)) p e3 (moved at (row_choice_neither f c d n first second)))))
 chosen_row f x y z (Some c) None n h g k p e = absurd (cc)
 chosen_row f x y z None _ n h g k p e = absurd (cc)
 

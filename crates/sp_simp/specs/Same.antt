@@ -1,5 +1,5 @@
 -- Whether two trees are one.
-use Rattle.std.specs.Prelude.{ℕ, ◌==◌, ◌≡◌, Bool, true, false, ◌&&◌, refl}
+use Rattle.std.specs.Prelude.{◌==◌, ◌≡◌, Bool, true, false, ◌&&◌, refl}
 use Rattle.std.proofs.Common.{ap, sym, ◌∙◌}
 use Rattle.std.proofs.lemmas.Bool.{eqb-true, eq-eqb, and_parts, and_from}
 use base.Stored.{Gv, gnil, gnum, gcons}

@@ -1,9 +1,9 @@
 -- The simple form of a tree: each part is replaced by its simple form, and then the first rule that matches is used, again
 -- and again (this project's own).
-use Rattle.std.specs.Prelude.{ℕ, ℤ, Bool, ◌≡◌, Option, Some, None}
+use Rattle.std.specs.Prelude.{ℕ, ℤ, Bool, ◌≡◌, Some, None}
 use Rattle.sp_term.specs.declared.var.Var.{Var}
 use Rattle.sp_term.specs.Tree.{Tree, Literal, Truth, Variable, Add, Subtract, Multiply, Divide, Remainder, ByteAnd, ByteOr, ByteXor, Parity, Bit, Psw, If, Element, Update, Total, Equal, Less, LessOrEqual, Not, And, Or, Implies, Iff, ForAll, ForSome}
-use Rattle.sp_simp.specs.Rules.{Right, Is, Made, MadePlus, MadeModulo, rule}
+use Rattle.sp_simp.specs.Rules.{Is, Made, MadePlus, MadeModulo, rule}
 
 -- What the rules lead to from a node whose parts are simple. Each node that a rule writes is passed through the rules, the
 -- innermost first.
