@@ -1,2 +1,3 @@
 pub mod AssemblyLemmas
 pub mod SourceLemmas
+pub mod TreeLemmas

@@ -1,4 +1,5 @@
 //! What sources mean, by example.
+ghost use Rattle.sp_reading_laws.specs.Expressions.{HaveOneTree};
 ghost use Rattle.sp_reading_laws.specs.Sources.{DividesByZero, EndsThere, NestsTo64, SetsAgain};
 
 /// A zero divisor refuses a source in both rounds, where all names have values.
@@ -19,4 +20,9 @@ pub fn sources_end()
 /// A statement nests 64 parentheses or NOT at most.
 pub fn statements_nest_to_64()
     ensures { NestsTo64 }
+{}
+
+/// The words of an expression have one tree.
+pub fn expressions_have_one_tree()
+    ensures { HaveOneTree }
 {}
