@@ -5,6 +5,7 @@ pub mod FarLemmas
 pub mod FlowLemmas
 pub mod GateLemmas
 pub mod GoodLemmas
+pub mod ImageLemmas
 pub mod KeepsLemmas
 pub mod LoadLemmas
 pub mod NoteLemmas

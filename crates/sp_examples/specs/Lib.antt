@@ -1,3 +1,4 @@
+pub mod Images
 pub mod Notes
 pub mod States
 pub mod Units

@@ -1,6 +1,7 @@
 //! Which of the small programs are good. Each law has a list or a number in which a program differs from its twins.
 
 ghost use Rattle.std.specs.Prelude.{◌≡◌, ◌≢◌, ◌↔◌, ◌⊎◌, ℕ, ◌+◌, ◌<◌, ◌≤◌, true, false, List, [], ◌∷◌, ◌++◌, Contains};
+ghost use Rattle.sp_base.specs.Image.{IsInMemory};
 ghost use Rattle.sp_base.specs.declared.location.Loc.{Loc};
 ghost use Rattle.sp_base.specs.declared.location.Loc.TheVariants as loc;
 ghost use Rattle.sp_isa.specs.Effect.{gives_output, takes_input};
@@ -11,6 +12,7 @@ ghost use Rattle.sp_model.specs.Good.{AllRunsAreGood, IsEntry, IsGood, IsGoodAt,
 ghost use Rattle.sp_model.specs.Note.{Note};
 ghost use Rattle.sp_model.specs.State.{State, IsState, next_instr, run, step};
 ghost use Rattle.sp_model.specs.Unit.{Area, Routine, Unit};
+ghost use Rattle.sp_examples.specs.Images.{one_byte};
 ghost use Rattle.sp_examples.specs.Notes.{BindsEverywhere, HasOverlap, StandForValues};
 ghost use Rattle.sp_examples.specs.States.{elsewhere, end_cells, left, ready, stopped, with_a, with_input, with_output, with_sp, with_z};
 ghost use Rattle.sp_examples.specs.Units.{IsEntryOf, IsFree, IsGoodOf, MayLeave, ReturnsAt, RunIsGood, a_is, alone, begin, bytes_of, caller, calling, entered, far, finish, given, guard, hop, hopping, landing, line, load, only, push, pushed_word, run_on, send, store, take, watch, write};
@@ -234,4 +236,9 @@ pub fn parts_stand_for_their_values()
 /// `band`, `bor` and `bxor` have the bits that are in both numbers, in either, and in one alone.
 pub fn notes_tell_bits_apart()
     ensures { HasOverlap }
+{}
+
+/// An image is in memory where its addresses are below 65,536 and its bytes below 256.
+pub fn images_lie_in_memory()
+    ensures { (a byte : ℕ) → IsInMemory (one_byte a byte) ↔ ((a < 65536) × (byte < 256)) }
 {}
