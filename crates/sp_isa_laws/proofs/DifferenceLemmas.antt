@@ -1,7 +1,7 @@
 -- Differences are found by trying: for each first byte and each location, two cores of which one has a 1 in A, and two other
 -- values of the location.
-use Rattle.std.proofs.Common.{◌≡◌, ◌≢◌, ◌⊎◌, ℕ, zero, suc, ◌<◌, Bool, true, false, ◌&&◌, ◌||◌, nat_eq, [], ◌∷◌, Option, Some, None, refl, sym, ap, ◌∙◌, inl, inr, arith}
-use Rattle.std.specs.Prelude.{not, if◌then◌else◌}
+use Rattle.std.proofs.Common.{◌≡◌, ◌≢◌, ◌⊎◌, ℕ, zero, suc, ◌<◌, Bool, true, false, ◌&&◌, ◌||◌, nat_eq, [], ◌∷◌, Option, Some, None, refl, sym, ap, ◌∙◌, inl, inr, arith, lit<, List}
+use Rattle.std.specs.Prelude.{not, if◌then◌else◌, Contains}
 use Rattle.std.proofs.lemmas.Bool.{cases_eq}
 use Rattle.std.proofs.lemmas.Bool.Decides.{nat_tests}
 use Rattle.sp_base.specs.declared.location.Loc.{Loc}
@@ -38,65 +38,46 @@ abbrev byte_out : Option (ℕ × ℕ) → ℕ
 byte_out None = 0
 byte_out (Some p) = p.1
 
--- some location passes a test
-some_location : (Loc → Bool) → Bool
-some_location test = test loc.A || (test loc.B || (test loc.C || (test loc.D || (test loc.E || (test loc.H || (test loc.L || (test loc.S || (test loc.Z || (test loc.Ac || (test loc.P || (test loc.Cy)))))))))))
+-- the locations
+locations : List Loc
+locations =
+    loc.A ∷ loc.B ∷ loc.C ∷ loc.D ∷ loc.E ∷ loc.H ∷ loc.L ∷ loc.S ∷ loc.Z ∷ loc.Ac ∷ loc.P ∷ loc.Cy ∷ []
 
-location_found : (test : Loc → Bool) → some_location test ≡ true → (x : Loc) × (test x ≡ true)
-unfolding some_location
-location_found test h = elim (either (test loc.A) (test loc.B || (test loc.C || (test loc.D || (test loc.E || (test loc.H || (test loc.L || (test loc.S || (test loc.Z || (test loc.Ac || (test loc.P || (test loc.Cy))))))))))) h) [
-  | inl e ↦ (loc.A, e)
-  | inr r0 ↦ elim (either (test loc.B) (test loc.C || (test loc.D || (test loc.E || (test loc.H || (test loc.L || (test loc.S || (test loc.Z || (test loc.Ac || (test loc.P || (test loc.Cy)))))))))) r0) [
-    | inl e ↦ (loc.B, e)
-    | inr r1 ↦ elim (either (test loc.C) (test loc.D || (test loc.E || (test loc.H || (test loc.L || (test loc.S || (test loc.Z || (test loc.Ac || (test loc.P || (test loc.Cy))))))))) r1) [
-      | inl e ↦ (loc.C, e)
-      | inr r2 ↦ elim (either (test loc.D) (test loc.E || (test loc.H || (test loc.L || (test loc.S || (test loc.Z || (test loc.Ac || (test loc.P || (test loc.Cy)))))))) r2) [
-        | inl e ↦ (loc.D, e)
-        | inr r3 ↦ elim (either (test loc.E) (test loc.H || (test loc.L || (test loc.S || (test loc.Z || (test loc.Ac || (test loc.P || (test loc.Cy))))))) r3) [
-          | inl e ↦ (loc.E, e)
-          | inr r4 ↦ elim (either (test loc.H) (test loc.L || (test loc.S || (test loc.Z || (test loc.Ac || (test loc.P || (test loc.Cy)))))) r4) [
-            | inl e ↦ (loc.H, e)
-            | inr r5 ↦ elim (either (test loc.L) (test loc.S || (test loc.Z || (test loc.Ac || (test loc.P || (test loc.Cy))))) r5) [
-              | inl e ↦ (loc.L, e)
-              | inr r6 ↦ elim (either (test loc.S) (test loc.Z || (test loc.Ac || (test loc.P || (test loc.Cy)))) r6) [
-                | inl e ↦ (loc.S, e)
-                | inr r7 ↦ elim (either (test loc.Z) (test loc.Ac || (test loc.P || (test loc.Cy))) r7) [
-                  | inl e ↦ (loc.Z, e)
-                  | inr r8 ↦ elim (either (test loc.Ac) (test loc.P || (test loc.Cy)) r8) [
-                    | inl e ↦ (loc.Ac, e)
-                    | inr r9 ↦ elim (either (test loc.P) (test loc.Cy) r9) [
-                      | inl e ↦ (loc.P, e)
-                      | inr r10 ↦ (loc.Cy, r10)
-                    ]
-                  ]
-                ]
-              ]
-            ]
-          ]
-        ]
-      ]
-    ]
-  ]
-]
+is_location : (x : Loc) → Contains locations x
+unfolding locations
+is_location loc.A = (0, lit< tt, refl)
+is_location loc.B = (1, lit< tt, refl)
+is_location loc.C = (2, lit< tt, refl)
+is_location loc.D = (3, lit< tt, refl)
+is_location loc.E = (4, lit< tt, refl)
+is_location loc.H = (5, lit< tt, refl)
+is_location loc.L = (6, lit< tt, refl)
+is_location loc.S = (7, lit< tt, refl)
+is_location loc.Z = (8, lit< tt, refl)
+is_location loc.Ac = (9, lit< tt, refl)
+is_location loc.P = (10, lit< tt, refl)
+is_location loc.Cy = (11, lit< tt, refl)
 
--- all locations pass a test
-all_locations : (Loc → Bool) → Bool
-all_locations test = test loc.A && (test loc.B && (test loc.C && (test loc.D && (test loc.E && (test loc.H && (test loc.L && (test loc.S && (test loc.Z && (test loc.Ac && (test loc.P && (test loc.Cy)))))))))))
+-- one of these passes a test
+some_of : (Loc → Bool) → List Loc → Bool
+some_of test [] = false
+some_of test (x ∷ xs) = test x || some_of test xs
 
-each_location : (test : Loc → Bool) → all_locations test ≡ true → (x : Loc) → test x ≡ true
-unfolding all_locations
-each_location test h loc.A = (both_hold (test loc.A) (test loc.B && (test loc.C && (test loc.D && (test loc.E && (test loc.H && (test loc.L && (test loc.S && (test loc.Z && (test loc.Ac && (test loc.P && (test loc.Cy))))))))))) h).0
-each_location test h loc.B = (both_hold (test loc.B) (test loc.C && (test loc.D && (test loc.E && (test loc.H && (test loc.L && (test loc.S && (test loc.Z && (test loc.Ac && (test loc.P && (test loc.Cy)))))))))) (both_hold (test loc.A) (test loc.B && (test loc.C && (test loc.D && (test loc.E && (test loc.H && (test loc.L && (test loc.S && (test loc.Z && (test loc.Ac && (test loc.P && (test loc.Cy))))))))))) h).1).0
-each_location test h loc.C = (both_hold (test loc.C) (test loc.D && (test loc.E && (test loc.H && (test loc.L && (test loc.S && (test loc.Z && (test loc.Ac && (test loc.P && (test loc.Cy))))))))) (both_hold (test loc.B) (test loc.C && (test loc.D && (test loc.E && (test loc.H && (test loc.L && (test loc.S && (test loc.Z && (test loc.Ac && (test loc.P && (test loc.Cy)))))))))) (both_hold (test loc.A) (test loc.B && (test loc.C && (test loc.D && (test loc.E && (test loc.H && (test loc.L && (test loc.S && (test loc.Z && (test loc.Ac && (test loc.P && (test loc.Cy))))))))))) h).1).1).0
-each_location test h loc.D = (both_hold (test loc.D) (test loc.E && (test loc.H && (test loc.L && (test loc.S && (test loc.Z && (test loc.Ac && (test loc.P && (test loc.Cy)))))))) (both_hold (test loc.C) (test loc.D && (test loc.E && (test loc.H && (test loc.L && (test loc.S && (test loc.Z && (test loc.Ac && (test loc.P && (test loc.Cy))))))))) (both_hold (test loc.B) (test loc.C && (test loc.D && (test loc.E && (test loc.H && (test loc.L && (test loc.S && (test loc.Z && (test loc.Ac && (test loc.P && (test loc.Cy)))))))))) (both_hold (test loc.A) (test loc.B && (test loc.C && (test loc.D && (test loc.E && (test loc.H && (test loc.L && (test loc.S && (test loc.Z && (test loc.Ac && (test loc.P && (test loc.Cy))))))))))) h).1).1).1).0
-each_location test h loc.E = (both_hold (test loc.E) (test loc.H && (test loc.L && (test loc.S && (test loc.Z && (test loc.Ac && (test loc.P && (test loc.Cy))))))) (both_hold (test loc.D) (test loc.E && (test loc.H && (test loc.L && (test loc.S && (test loc.Z && (test loc.Ac && (test loc.P && (test loc.Cy)))))))) (both_hold (test loc.C) (test loc.D && (test loc.E && (test loc.H && (test loc.L && (test loc.S && (test loc.Z && (test loc.Ac && (test loc.P && (test loc.Cy))))))))) (both_hold (test loc.B) (test loc.C && (test loc.D && (test loc.E && (test loc.H && (test loc.L && (test loc.S && (test loc.Z && (test loc.Ac && (test loc.P && (test loc.Cy)))))))))) (both_hold (test loc.A) (test loc.B && (test loc.C && (test loc.D && (test loc.E && (test loc.H && (test loc.L && (test loc.S && (test loc.Z && (test loc.Ac && (test loc.P && (test loc.Cy))))))))))) h).1).1).1).1).0
-each_location test h loc.H = (both_hold (test loc.H) (test loc.L && (test loc.S && (test loc.Z && (test loc.Ac && (test loc.P && (test loc.Cy)))))) (both_hold (test loc.E) (test loc.H && (test loc.L && (test loc.S && (test loc.Z && (test loc.Ac && (test loc.P && (test loc.Cy))))))) (both_hold (test loc.D) (test loc.E && (test loc.H && (test loc.L && (test loc.S && (test loc.Z && (test loc.Ac && (test loc.P && (test loc.Cy)))))))) (both_hold (test loc.C) (test loc.D && (test loc.E && (test loc.H && (test loc.L && (test loc.S && (test loc.Z && (test loc.Ac && (test loc.P && (test loc.Cy))))))))) (both_hold (test loc.B) (test loc.C && (test loc.D && (test loc.E && (test loc.H && (test loc.L && (test loc.S && (test loc.Z && (test loc.Ac && (test loc.P && (test loc.Cy)))))))))) (both_hold (test loc.A) (test loc.B && (test loc.C && (test loc.D && (test loc.E && (test loc.H && (test loc.L && (test loc.S && (test loc.Z && (test loc.Ac && (test loc.P && (test loc.Cy))))))))))) h).1).1).1).1).1).0
-each_location test h loc.L = (both_hold (test loc.L) (test loc.S && (test loc.Z && (test loc.Ac && (test loc.P && (test loc.Cy))))) (both_hold (test loc.H) (test loc.L && (test loc.S && (test loc.Z && (test loc.Ac && (test loc.P && (test loc.Cy)))))) (both_hold (test loc.E) (test loc.H && (test loc.L && (test loc.S && (test loc.Z && (test loc.Ac && (test loc.P && (test loc.Cy))))))) (both_hold (test loc.D) (test loc.E && (test loc.H && (test loc.L && (test loc.S && (test loc.Z && (test loc.Ac && (test loc.P && (test loc.Cy)))))))) (both_hold (test loc.C) (test loc.D && (test loc.E && (test loc.H && (test loc.L && (test loc.S && (test loc.Z && (test loc.Ac && (test loc.P && (test loc.Cy))))))))) (both_hold (test loc.B) (test loc.C && (test loc.D && (test loc.E && (test loc.H && (test loc.L && (test loc.S && (test loc.Z && (test loc.Ac && (test loc.P && (test loc.Cy)))))))))) (both_hold (test loc.A) (test loc.B && (test loc.C && (test loc.D && (test loc.E && (test loc.H && (test loc.L && (test loc.S && (test loc.Z && (test loc.Ac && (test loc.P && (test loc.Cy))))))))))) h).1).1).1).1).1).1).0
-each_location test h loc.S = (both_hold (test loc.S) (test loc.Z && (test loc.Ac && (test loc.P && (test loc.Cy)))) (both_hold (test loc.L) (test loc.S && (test loc.Z && (test loc.Ac && (test loc.P && (test loc.Cy))))) (both_hold (test loc.H) (test loc.L && (test loc.S && (test loc.Z && (test loc.Ac && (test loc.P && (test loc.Cy)))))) (both_hold (test loc.E) (test loc.H && (test loc.L && (test loc.S && (test loc.Z && (test loc.Ac && (test loc.P && (test loc.Cy))))))) (both_hold (test loc.D) (test loc.E && (test loc.H && (test loc.L && (test loc.S && (test loc.Z && (test loc.Ac && (test loc.P && (test loc.Cy)))))))) (both_hold (test loc.C) (test loc.D && (test loc.E && (test loc.H && (test loc.L && (test loc.S && (test loc.Z && (test loc.Ac && (test loc.P && (test loc.Cy))))))))) (both_hold (test loc.B) (test loc.C && (test loc.D && (test loc.E && (test loc.H && (test loc.L && (test loc.S && (test loc.Z && (test loc.Ac && (test loc.P && (test loc.Cy)))))))))) (both_hold (test loc.A) (test loc.B && (test loc.C && (test loc.D && (test loc.E && (test loc.H && (test loc.L && (test loc.S && (test loc.Z && (test loc.Ac && (test loc.P && (test loc.Cy))))))))))) h).1).1).1).1).1).1).1).0
-each_location test h loc.Z = (both_hold (test loc.Z) (test loc.Ac && (test loc.P && (test loc.Cy))) (both_hold (test loc.S) (test loc.Z && (test loc.Ac && (test loc.P && (test loc.Cy)))) (both_hold (test loc.L) (test loc.S && (test loc.Z && (test loc.Ac && (test loc.P && (test loc.Cy))))) (both_hold (test loc.H) (test loc.L && (test loc.S && (test loc.Z && (test loc.Ac && (test loc.P && (test loc.Cy)))))) (both_hold (test loc.E) (test loc.H && (test loc.L && (test loc.S && (test loc.Z && (test loc.Ac && (test loc.P && (test loc.Cy))))))) (both_hold (test loc.D) (test loc.E && (test loc.H && (test loc.L && (test loc.S && (test loc.Z && (test loc.Ac && (test loc.P && (test loc.Cy)))))))) (both_hold (test loc.C) (test loc.D && (test loc.E && (test loc.H && (test loc.L && (test loc.S && (test loc.Z && (test loc.Ac && (test loc.P && (test loc.Cy))))))))) (both_hold (test loc.B) (test loc.C && (test loc.D && (test loc.E && (test loc.H && (test loc.L && (test loc.S && (test loc.Z && (test loc.Ac && (test loc.P && (test loc.Cy)))))))))) (both_hold (test loc.A) (test loc.B && (test loc.C && (test loc.D && (test loc.E && (test loc.H && (test loc.L && (test loc.S && (test loc.Z && (test loc.Ac && (test loc.P && (test loc.Cy))))))))))) h).1).1).1).1).1).1).1).1).0
-each_location test h loc.Ac = (both_hold (test loc.Ac) (test loc.P && (test loc.Cy)) (both_hold (test loc.Z) (test loc.Ac && (test loc.P && (test loc.Cy))) (both_hold (test loc.S) (test loc.Z && (test loc.Ac && (test loc.P && (test loc.Cy)))) (both_hold (test loc.L) (test loc.S && (test loc.Z && (test loc.Ac && (test loc.P && (test loc.Cy))))) (both_hold (test loc.H) (test loc.L && (test loc.S && (test loc.Z && (test loc.Ac && (test loc.P && (test loc.Cy)))))) (both_hold (test loc.E) (test loc.H && (test loc.L && (test loc.S && (test loc.Z && (test loc.Ac && (test loc.P && (test loc.Cy))))))) (both_hold (test loc.D) (test loc.E && (test loc.H && (test loc.L && (test loc.S && (test loc.Z && (test loc.Ac && (test loc.P && (test loc.Cy)))))))) (both_hold (test loc.C) (test loc.D && (test loc.E && (test loc.H && (test loc.L && (test loc.S && (test loc.Z && (test loc.Ac && (test loc.P && (test loc.Cy))))))))) (both_hold (test loc.B) (test loc.C && (test loc.D && (test loc.E && (test loc.H && (test loc.L && (test loc.S && (test loc.Z && (test loc.Ac && (test loc.P && (test loc.Cy)))))))))) (both_hold (test loc.A) (test loc.B && (test loc.C && (test loc.D && (test loc.E && (test loc.H && (test loc.L && (test loc.S && (test loc.Z && (test loc.Ac && (test loc.P && (test loc.Cy))))))))))) h).1).1).1).1).1).1).1).1).1).0
-each_location test h loc.P = (both_hold (test loc.P) (test loc.Cy) (both_hold (test loc.Ac) (test loc.P && (test loc.Cy)) (both_hold (test loc.Z) (test loc.Ac && (test loc.P && (test loc.Cy))) (both_hold (test loc.S) (test loc.Z && (test loc.Ac && (test loc.P && (test loc.Cy)))) (both_hold (test loc.L) (test loc.S && (test loc.Z && (test loc.Ac && (test loc.P && (test loc.Cy))))) (both_hold (test loc.H) (test loc.L && (test loc.S && (test loc.Z && (test loc.Ac && (test loc.P && (test loc.Cy)))))) (both_hold (test loc.E) (test loc.H && (test loc.L && (test loc.S && (test loc.Z && (test loc.Ac && (test loc.P && (test loc.Cy))))))) (both_hold (test loc.D) (test loc.E && (test loc.H && (test loc.L && (test loc.S && (test loc.Z && (test loc.Ac && (test loc.P && (test loc.Cy)))))))) (both_hold (test loc.C) (test loc.D && (test loc.E && (test loc.H && (test loc.L && (test loc.S && (test loc.Z && (test loc.Ac && (test loc.P && (test loc.Cy))))))))) (both_hold (test loc.B) (test loc.C && (test loc.D && (test loc.E && (test loc.H && (test loc.L && (test loc.S && (test loc.Z && (test loc.Ac && (test loc.P && (test loc.Cy)))))))))) (both_hold (test loc.A) (test loc.B && (test loc.C && (test loc.D && (test loc.E && (test loc.H && (test loc.L && (test loc.S && (test loc.Z && (test loc.Ac && (test loc.P && (test loc.Cy))))))))))) h).1).1).1).1).1).1).1).1).1).1).0
-each_location test h loc.Cy = (both_hold (test loc.P) (test loc.Cy) (both_hold (test loc.Ac) (test loc.P && (test loc.Cy)) (both_hold (test loc.Z) (test loc.Ac && (test loc.P && (test loc.Cy))) (both_hold (test loc.S) (test loc.Z && (test loc.Ac && (test loc.P && (test loc.Cy)))) (both_hold (test loc.L) (test loc.S && (test loc.Z && (test loc.Ac && (test loc.P && (test loc.Cy))))) (both_hold (test loc.H) (test loc.L && (test loc.S && (test loc.Z && (test loc.Ac && (test loc.P && (test loc.Cy)))))) (both_hold (test loc.E) (test loc.H && (test loc.L && (test loc.S && (test loc.Z && (test loc.Ac && (test loc.P && (test loc.Cy))))))) (both_hold (test loc.D) (test loc.E && (test loc.H && (test loc.L && (test loc.S && (test loc.Z && (test loc.Ac && (test loc.P && (test loc.Cy)))))))) (both_hold (test loc.C) (test loc.D && (test loc.E && (test loc.H && (test loc.L && (test loc.S && (test loc.Z && (test loc.Ac && (test loc.P && (test loc.Cy))))))))) (both_hold (test loc.B) (test loc.C && (test loc.D && (test loc.E && (test loc.H && (test loc.L && (test loc.S && (test loc.Z && (test loc.Ac && (test loc.P && (test loc.Cy)))))))))) (both_hold (test loc.A) (test loc.B && (test loc.C && (test loc.D && (test loc.E && (test loc.H && (test loc.L && (test loc.S && (test loc.Z && (test loc.Ac && (test loc.P && (test loc.Cy))))))))))) h).1).1).1).1).1).1).1).1).1).1).1
+one_found : (test : Loc → Bool) (xs : List Loc) → some_of test xs ≡ true → (x : Loc) × (test x ≡ true)
+unfolding some_of
+one_found test [] h = absurd cc
+one_found test (x ∷ xs) h = elim (either (test x) (some_of test xs) h) [ inl here ↦ (x, here) | inr below ↦ one_found test xs below ]
+
+-- all of these pass a test
+all_of : (Loc → Bool) → List Loc → Bool
+all_of test [] = true
+all_of test (x ∷ xs) = test x && all_of test xs
+
+each_of : (test : Loc → Bool) (xs : List Loc) → all_of test xs ≡ true → (x : Loc) → Contains xs x → test x ≡ true
+unfolding all_of
+each_of test [] h x (k, less, is) = absurd (omega arith)
+each_of test (y ∷ xs) h x (zero, less, is) = ap test (sym is) ∙ (both_hold (test y) (all_of test xs) h).0
+each_of test (y ∷ xs) h x (suc k, less, is) = each_of test xs (both_hold (test y) (all_of test xs) h).1 x (k, omega arith, is)
 
 -- all numbers below one pass a test
 all_below : (ℕ → Bool) → ℕ → Bool
@@ -143,7 +124,7 @@ differs_in_cell a one two = differ (cell a one) (cell a two)
 
 abbrev differs_after : Instr → Core → Core → Core → Core → Bool
 differs_after i one two new other =
-    some_location (differs_at i new other)
+    some_of (differs_at i new other) locations
     || (differs_in_cell 0 new other || (differs_in_cell 5 new other || (differs_in_cell 6 new other
     || (differ new.sp other.sp || (differ new.pc other.pc || differ (byte_out (gives_output i one)) (byte_out (gives_output i two)))))))
 
@@ -154,9 +135,9 @@ found : (i : Instr) (one two : Core) → differs i one two ≡ true → DiffersA
 found i one two h =
     let new = effect 0 i one in
     let other = effect 0 i two in
-    elim (either (some_location (differs_at i new other)) _ h) [
+    elim (either (some_of (differs_at i new other) locations) _ h) [
       | inl here ↦
-          let x = location_found (differs_at i new other) here in
+          let x = one_found (differs_at i new other) locations here in
           let parts = both_hold (has x.0 (writes i)) (differ (at x.0 new) (at x.0 other)) x.1 in
           in_location x.0 parts.0 (apart (at x.0 new) (at x.0 other) parts.1)
       | inr h0 ↦ elim (either (differs_in_cell 0 new other) _ h0) [
@@ -199,7 +180,7 @@ read_matters i x = if has x (reads i) then matters i x else true
 
 abbrev all_matter : Option (Instr × ℕ) → Bool
 all_matter None = true
-all_matter (Some p) = all_locations (read_matters p.0)
+all_matter (Some p) = all_of (read_matters p.0) locations
 
 abbrev byte_matters : ℕ → Bool
 byte_matters first = all_matter (decode first 5 0)
@@ -207,7 +188,7 @@ byte_matters first = all_matter (decode first 5 0)
 table : all_below byte_matters 256 ≡ true
 unfolding decode form has none only both effect with_szp add compare subtract logic alu increase decrease add_pair adjust rotate
     push with_flag_byte push_pair top_to pop_pair call ret exchange_top exchange_pairs with_pair with_arg with_reg with_sp with_pc with_cell
-    with_flag with_halted advance lib.Count.ones differ some_location all_locations all_below
+    with_flag with_halted advance lib.Count.ones differ locations some_of all_of all_below
 table = refl
 
 used : (i : Instr) (x : Loc) → read_matters i x ≡ true → has x (reads i) ≡ true → matters i x ≡ true
@@ -216,5 +197,5 @@ used i x h read = sym (ap (λ b. if b then matters i x else true) read) ∙ h
 pub reads_matter : ReadsMatter
 reads_matter first i length x less is read =
     let all = each_below byte_matters 256 table first less in
-    let here : all_locations (read_matters i) ≡ true = sym (ap all_matter is) ∙ all in
-    matters_is i x (used i x (each_location (read_matters i) here x) read)
+    let here : all_of (read_matters i) locations ≡ true = sym (ap all_matter is) ∙ all in
+    matters_is i x (used i x (each_of (read_matters i) locations here x (is_location x)) read)
