@@ -1,0 +1,18 @@
+//! Translation: a symbolic state through an instruction, and a note as a formula.
+#![tactic(auto)]
+
+mod accumulator;
+mod arithmetic;
+mod build;
+mod formulas;
+mod names;
+mod operands;
+mod pairs;
+mod symbolic;
+mod terms;
+mod transfers;
+mod translation;
+
+pub use formulas::note_term;
+pub use symbolic::Sym;
+pub use translation::apply;
