@@ -1,6 +1,8 @@
+pub mod ClosedTerms
 pub mod Formulas
 pub mod Meaning
 pub mod Symbolic
+pub mod Theorems
 pub mod Translation
 pub mod TreeEquality
 pub mod View

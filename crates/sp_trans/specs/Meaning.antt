@@ -1,5 +1,5 @@
 -- When a machine's core is the value of a symbolic state, and what is asked so that a step keeps it so (this project's own).
-use Rattle.std.specs.Prelude.{◌≡◌, ℕ, ◌+◌, ◌*◌, ◌%◌, ◌<◌, ◌≤◌, ℤ, pos, IsTrue, true, false, Some, List, [], ◌∷◌, ◌++◌, length, slice_index, All, ⊤}
+use Rattle.std.specs.Prelude.{◌≡◌, ℕ, ◌+◌, ◌*◌, ◌%◌, ◌<◌, ◌≤◌, ℤ, pos, IsTrue, List, [], ◌∷◌, ◌++◌, length, slice_index, All, ⊤}
 use Rattle.sp_base.specs.declared.location.Loc.{Loc}
 use Rattle.sp_base.specs.declared.pair.Pair.TheVariants as pair
 use Rattle.sp_isa.specs.declared.instr.Arg.{Arg}
@@ -10,12 +10,10 @@ use Rattle.sp_isa.specs.Code.{valid}
 use Rattle.sp_isa.specs.Core.{Core, at}
 use Rattle.sp_isa.specs.Operands.{pair_of}
 use Rattle.sp_model.specs.Note.{Frame, shown, stack_address}
-use Rattle.sp_model.specs.State.{State, IsState, next_instr, next_input, step}
-use Rattle.sp_term.specs.declared.var.Var.TheVariants as var
 use Rattle.sp_term.specs.Tree.{Tree}
 use Rattle.sp_term.specs.Value.{Env, int_of, map_of}
 use Rattle.sp_trans.specs.Symbolic.{Word, Symbolic, term_at}
-use Rattle.sp_trans.specs.Translation.{applied, next}
+use Rattle.sp_trans.specs.Translation.{next}
 
 -- ---- values
 
@@ -122,21 +120,3 @@ pub record Asks (f : Frame) (i : Instr) (g : Symbolic) (core : Core) : Type 0 wh
   pub room : IsPush i → (f.first + 2 ≤ core.sp) × (core.sp ≤ f.last + 1)
   pub words : words_taken i ≤ length g.slots
   pub cells : All (λ a. ¬ IsInStack f a) (addressed i core)
-
--- ---- the theorem
-
--- Where a state's core is the value of a symbolic state, and its next instruction meets what is asked, the core after the
--- step is the value of the symbolic state after the instruction. The variable of an IN is the byte that it takes.
-abbrev pub StepsAreTranslated : Type 0
-StepsAreTranslated =
-    (f : Frame) (e : Env) (g : Symbolic) (s : State) (i : Instr) (n j : ℕ)
-    → IsState s → s.core.halted ≡ false → next_instr s.core ≡ Some (i, n) → Asks f i g s.core
-    → (IsIn i → e.int (var.In j) ≡ pos (next_input s))
-    → IsValueOf f e g s.core → IsValueOf f e (applied i j g) (step s).core
-
--- The stack pointer stays at the newest word. Where it is set and there is no word, it is at the base if that is the number.
-abbrev pub PointersStay : Type 0
-PointersStay =
-    (f : Frame) (g : Symbolic) (s : State) (i : Instr) (n j : ℕ)
-    → IsState s → s.core.halted ≡ false → next_instr s.core ≡ Some (i, n) → Asks f i g s.core
-    → ¬ SetsPointer i → HasPointer f (applied i j g) (step s).core

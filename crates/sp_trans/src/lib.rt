@@ -5,6 +5,7 @@ mod accumulator;
 mod arithmetic;
 mod build;
 mod formulas;
+mod laws;
 mod names;
 mod operands;
 mod pairs;
@@ -14,5 +15,6 @@ mod transfers;
 mod translation;
 
 pub use formulas::note_term;
+pub use laws::steps_are_translated;
 pub use symbolic::Sym;
 pub use translation::apply;

@@ -27,7 +27,6 @@ fn divided<'a>(t: &'a Term<'a>) -> &'a Term<'a>
 }
 
 /// Whether two terms are one tree.
-#[tactic(auto, using(crate::proofs::EqualityLemmas::same_is))]
 fn is_one(x: &Term, y: &Term) -> bool
     ensures { result ≡ same_tree x.now y.now }
 {

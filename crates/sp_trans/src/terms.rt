@@ -35,7 +35,8 @@ pub struct Terms<'a> {
 /// The terms of a symbolic state.
 pub fn terms_of<'a>(sym: Sym<'a>) -> Terms<'a>
     requires { length sym.locs.now ≡ 12 }
-    ensures { state result ≡ symbolic_of sym.entry }
+    ensures state { state result ≡ symbolic_of sym.entry }
+    ensures words { length result.slots.now ≡ length sym.entry.slots.now }
 {
     let locs = sym.locs;
     Terms {
