@@ -1,4 +1,5 @@
 pub mod EqualityLemmas
+pub mod NoteLemmas
 pub mod RowLemmas
 pub mod StackLemmas
 pub mod StepLemmas

@@ -5,3 +5,8 @@ ghost use Rattle.sp_trans.specs.Theorems.{StepsAreTranslated, NotesAreTranslated
 pub fn steps_are_translated()
     ensures { StepsAreTranslated }
 {}
+
+/// A note is true exactly where its formula is.
+pub fn notes_are_translated()
+    ensures { NotesAreTranslated }
+{}
