@@ -1,32 +1,30 @@
 -- Notes are true where their formulas are.
-use Rattle.std.proofs.Common.{◌≡◌, ◌≢◌, ℕ, zero, suc, ◌+◌, ◌*◌, ◌<◌, ◌≤◌, ◌⊎◌, inl, inr, Bool, true, false, not, cond, List, [], ◌∷◌, length, refl, sym, ap, subst, ◌∙◌, arith, pos, ℤ, All}
-use Rattle.std.specs.Prelude.{◌↔◌, ◌<ℤ◌, ◌≤ℤ◌, ◌-ℤ◌, neg_ℤ, int_lt, int_le, ◌&&◌, ◌||◌, ◌==◌, Contains, bytes_eq, slice_index, slice_index_or, IsTrue, if◌then◌else◌, ⊤}
+use Rattle.std.proofs.Common.{◌≡◌, ◌≢◌, ℕ, zero, suc, ◌+◌, ◌*◌, ◌<◌, ◌≤◌, ◌⊎◌, inl, inr, Bool, true, false, not, cond, List, [], ◌∷◌, length, refl, sym, ap, subst, ◌∙◌, arith, pos, ℤ}
+use Rattle.std.specs.Prelude.{◌↔◌, ◌<ℤ◌, ◌≤ℤ◌, ◌-ℤ◌, neg_ℤ, int_lt, int_le, ◌&&◌, ◌||◌, ◌==◌, Contains, bytes_eq, if◌then◌else◌, ⊤}
 use Rattle.std.specs.List.{AllByRecursion}
 use Rattle.std.specs.Ordering.{int_eq}
 use Rattle.std.specs.Cmp.{signed_Decides}
 use Rattle.std.proofs.Math.Path.{fun_ext}
-use Rattle.std.proofs.lemmas.Bool.{true≢false, or_cases, or_left, or_right, and_parts, and_from, eqb-true, ne_eqb}
+use Rattle.std.proofs.lemmas.Bool.{true≢false, or_cases, or_left, or_right, and_parts, and_from, eqb-true}
 use Rattle.std.proofs.lemmas.Bool.Decides.{nat_tests}
 use Rattle.std.proofs.lemmas.Int.{ints}
 use Rattle.std.proofs.lemmas.List.Elements.{recursion_from_All}
 use Rattle.std.proofs.lemmas.Slice.Eq.{bytes_eq-Decides}
 use Rattle.sp_base.specs.Integers.{parity, sum_between, all_between, some_between}
 use Rattle.sp_base.proofs.IntegerLemmas.{all_between_is, some_between_is}
-use Rattle.sp_base.specs.declared.location.Loc.{Loc}
 use Rattle.sp_base.specs.declared.pair.Pair.TheVariants as pair
 use Rattle.sp_isa.specs.Core.{Core, word}
 use Rattle.sp_model.specs.Note as note
 use Rattle.sp_model.specs.Note.{Frame, Bindings, Moment, RegisterPair, Operator, Quantity, Comparison, Connective, Quantifier, Note, HoldsWith, HasBoundNames, BindsNames, bound_value, core_at, register_pair, shown, stack_address, calculate, Compares, Connects, Quantifies}
 use Rattle.sp_term.specs.declared.var.Var.{Var}
 use Rattle.sp_term.specs.declared.var.Var.TheVariants as var
-use Rattle.sp_term.specs.Tree.{Tree, Variable}
-use Rattle.sp_term.specs.Free.{var_eq, is_free, IsClosed}
-use Rattle.sp_term.specs.Sorts.{Int, Memory}
+use Rattle.sp_term.specs.Tree.{Tree}
+use Rattle.sp_term.specs.Free.{is_free, IsClosed}
 use Rattle.sp_term.specs.Value.{Env, Value, value, bind, int_of, map_of, IsTrueIn}
 use Rattle.sp_term.proofs.FreeLemmas.{Agrees, value_agrees, var_self}
-use Rattle.sp_trans.specs.Symbolic.{Word, Symbolic, term_at, joined, pair_term}
+use Rattle.sp_trans.specs.Symbolic.{Word, Symbolic, term_at, joined}
 use Rattle.sp_trans.specs.Formulas.{state_at, register_pair_term, stack_term, name_number, operation, quantity_term, comparison_formula, formula_in, QuantityFits, NoteFits}
-use Rattle.sp_trans.specs.ClosedTerms.{IsClosedTerm, IsClosedWord, IsSymbolic}
+use Rattle.sp_trans.specs.ClosedTerms.{IsClosedWord, IsSymbolic}
 use Rattle.sp_trans.specs.Meaning.{Gives, AreWords, IsValueOf}
 use Rattle.sp_trans.specs.Theorems.{NotesAreTranslated}
 use Rattle.sp_trans.proofs.TermLemmas.{named}
@@ -56,9 +54,10 @@ kept {k = k} {z = z} {e = e} t n closed h = record { is = ap (λ (v : Value). v.
 
 words_kept : (f : Frame) (e : Env) (k : ℕ) (z : ℤ) (words : List Word) (cells : List ℕ) → AllByRecursion IsClosedWord words → AreWords f e words cells → AreWords f (bind k z e) words cells
 words_kept f e k z [] cells closed h = tt
-words_kept f e k z (w ∷ words) cells closed h =
-    (record { low = kept w.low _ closed.0.low.closed h.0.low; high = kept w.high _ closed.0.high.closed h.0.high },
-    words_kept f e k z words cells closed.1 h.1)
+words_kept f e k z (w ∷ words) cells closed h = (
+  record { low = kept w.low _ closed.0.low.closed h.0.low; high = kept w.high _ closed.0.high.closed h.0.high },
+  words_kept f e k z words cells closed.1 h.1,
+)
 
 state_kept : (f : Frame) (e : Env) (k : ℕ) (z : ℤ) (g : Symbolic) (core : Core) → IsSymbolic g → IsValueOf f e g core → IsValueOf f (bind k z e) g core
 state_kept f e k z g core closed h = record {

@@ -1,6 +1,6 @@
 -- One instruction keeps the machine's core the value of the symbolic state.
-use Rattle.std.proofs.Common.{◌≡◌, ◌≢◌, ℕ, zero, suc, ◌*◌, ◌+◌, ◌-◌, ◌%◌, ◌/◌, ◌<◌, ◌≤◌, Bool, true, false, cond, length, refl, sym, ap, subst, List, [], ◌∷◌, ◌++◌, ◌∙◌, arith, pos, ℤ, Some, All, lit<}
-use Rattle.std.specs.Prelude.{slice_index, ⊤}
+use Rattle.std.proofs.Common.{◌≡◌, ◌≢◌, ℕ, suc, ◌+◌, ◌-◌, ◌%◌, ◌/◌, ◌<◌, ◌≤◌, Bool, true, false, cond, length, refl, sym, ap, subst, List, [], ◌∷◌, ◌++◌, arith, pos, All, lit<}
+use Rattle.std.specs.Prelude.{slice_index}
 use Rattle.std.specs.List.{AllByRecursion}
 use Rattle.std.proofs.lemmas.List.Elements.{recursion_from_All}
 use Rattle.sp_base.specs.declared.location.Reg.TheVariants as reg
@@ -15,20 +15,20 @@ use Rattle.sp_isa.specs.declared.instr.Instr.{Instr}
 use Rattle.sp_isa.specs.declared.instr.Instr.TheVariants.{Mov, Mvi, Inr, Dcr, Alu, AluImmediate, Lxi, Dad, Inx, Dcx, Stax, Ldax, Shld, Lhld, Sta, Lda, Rlc, Rrc, Ral, Rar, Daa, Cma, Stc, Cmc, Push, Pop, Jmp, Jcc, Call, Ccc, Ret, Rcc, Rst, Pchl, Sphl, Xthl, Xchg, In, Out, Nop, Ei, Di, Hlt}
 use Rattle.sp_isa.specs.Code.{valid, operand}
 use Rattle.sp_isa.specs.Core.{Core, IsCore, at, cell, with_reg, with_cell, with_sp, with_halted, advance}
-use Rattle.sp_isa.specs.Operands.{pair_of, with_pair, arg_of}
+use Rattle.sp_isa.specs.Operands.{pair_of, with_pair}
 use Rattle.sp_isa.specs.Stack.{holds, pop_pair, exchange_top}
 use Rattle.sp_isa.specs.Effect.{effect}
 use Rattle.sp_isa.proofs.CoreLemmas.{low_arg}
 use Rattle.sp_model.specs.Note.{Frame}
 use Rattle.sp_term.specs.declared.var.Var.TheVariants as var
 use Rattle.sp_term.specs.Value.{Env}
-use Rattle.sp_trans.specs.Symbolic.{Word, Symbolic, number, pair_term, with_term, with_memory, with_slots}
+use Rattle.sp_trans.specs.Symbolic.{Word, Symbolic, number, pair_term, with_memory}
 use Rattle.sp_trans.specs.Translation.{applied, element, next, with_cell_term, with_bytes, popped, top_exchanged}
-use Rattle.sp_trans.specs.Meaning.{Gives, AreWords, IsValueOf, HasPointer, HasForm, SetsPointer, IsPush, IsIn, words_taken, addressed, arg_cells, IsInStack, Asks}
+use Rattle.sp_trans.specs.Meaning.{IsValueOf, HasPointer, HasForm, IsIn, addressed, arg_cells, IsInStack, Asks}
 use Rattle.sp_trans.proofs.TermLemmas.{named, literal, plus, times, over, rest, minus, left}
 use Rattle.sp_trans.proofs.ValueLemmas.{Fits, IsFree, IsOutside, not_in_stack, value_pc, value_advance, value_store, value_element, value_arg, value_with_arg}
 use Rattle.sp_trans.proofs.RowLemmas.{to_reg, to_flag, value_alu, value_adjust, value_rotate, value_literal, value_add_pair, value_next, value_previous, value_exchange, value_increase, value_decrease, gives_arg, gives_pair, low_pair}
-use Rattle.sp_trans.proofs.StackLemmas.{HasRoom, room_of_places, room_of_push, with_cell_at, long_cell, value_push_pair, value_pop, value_exchange_top}
+use Rattle.sp_trans.proofs.StackLemmas.{room_of_places, room_of_push, with_cell_at, long_cell, value_push_pair, value_pop, value_exchange_top}
 
 only_byte : (n : ℕ) → All (λ byte. byte < 256) (n ∷ []) → n < 256
 only_byte n bytes = bytes 0 0 (lit< tt)

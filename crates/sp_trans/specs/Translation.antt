@@ -14,7 +14,7 @@ use Rattle.sp_isa.specs.declared.instr.Instr.{Instr}
 use Rattle.sp_isa.specs.declared.instr.Instr.TheVariants.{Mov, Mvi, Inr, Dcr, Alu, AluImmediate, Lxi, Dad, Inx, Dcx, Stax, Ldax, Shld, Lhld, Sta, Lda, Rlc, Rrc, Ral, Rar, Daa, Cma, Stc, Cmc, Push, Pop, Xthl, Xchg, In}
 use Rattle.sp_term.specs.declared.var.Var.TheVariants as var
 use Rattle.sp_term.specs.Tree.{Tree, Variable, Add, Subtract, Multiply, Divide, Remainder, ByteAnd, ByteOr, ByteXor, Parity, Bit, Psw, If, Element, Update, Equal, Less, Or}
-use Rattle.sp_trans.specs.Symbolic.{Word, Symbolic, term_at, with_term, with_memory, with_slots, number, joined, pair_term}
+use Rattle.sp_trans.specs.Symbolic.{Word, Symbolic, term_at, with_term, with_memory, with_slots, number, pair_term}
 
 -- ---- parts of terms
 

@@ -38,10 +38,7 @@ pub fn rotated_right<'a>(arena: &'a Bump, g: Terms<'a>) -> Result<Terms<'a>, Mem
 
 /// RAL.
 #[tactic(auto, unfolding(crate::specs::Translation::rotated))]
-pub fn rotated_left_through_carry<'a>(
-    arena: &'a Bump,
-    g: Terms<'a>,
-) -> Result<Terms<'a>, Memory>
+pub fn rotated_left_through_carry<'a>(arena: &'a Bump, g: Terms<'a>) -> Result<Terms<'a>, Memory>
     ensures { IfOk result (λ t. state t ≡ rotated (Add (doubled g.entry.a.now) g.entry.cy.now) (over g.entry.a.now 128) (state g.entry)) }
 {
     let two = doubled(arena, g.a)?;
@@ -52,10 +49,7 @@ pub fn rotated_left_through_carry<'a>(
 
 /// RAR.
 #[tactic(auto, unfolding(crate::specs::Translation::rotated))]
-pub fn rotated_right_through_carry<'a>(
-    arena: &'a Bump,
-    g: Terms<'a>,
-) -> Result<Terms<'a>, Memory>
+pub fn rotated_right_through_carry<'a>(arena: &'a Bump, g: Terms<'a>) -> Result<Terms<'a>, Memory>
     ensures { IfOk result (λ t. state t ≡ rotated (Add (over g.entry.a.now 2) (Multiply (number 128) g.entry.cy.now)) (modulo g.entry.a.now 2) (state g.entry)) }
 {
     let half = over(arena, g.a, 2)?;

@@ -15,11 +15,7 @@ use sp_term::{Kind, Term, make};
 
 /// S, Z and P of a byte.
 #[tactic(auto, unfolding(crate::specs::Translation::with_szp_term))]
-pub fn with_szp<'a>(
-    arena: &'a Bump,
-    r: &'a Term<'a>,
-    g: Terms<'a>,
-) -> Result<Terms<'a>, Memory>
+pub fn with_szp<'a>(arena: &'a Bump, r: &'a Term<'a>, g: Terms<'a>) -> Result<Terms<'a>, Memory>
     ensures { IfOk result (λ t. state t ≡ with_szp_term r.now (state g.entry)) }
 {
     let s = over(arena, r, 128)?;
@@ -140,11 +136,7 @@ fn added<'a>(arena: &'a Bump, y: &'a Term<'a>, g: Terms<'a>) -> Result<Terms<'a>
 }
 
 #[tactic(auto, unfolding(crate::specs::Translation::operated))]
-fn added_with_carry<'a>(
-    arena: &'a Bump,
-    y: &'a Term<'a>,
-    g: Terms<'a>,
-) -> Result<Terms<'a>, Memory>
+fn added_with_carry<'a>(arena: &'a Bump, y: &'a Term<'a>, g: Terms<'a>) -> Result<Terms<'a>, Memory>
     ensures { IfOk result (λ t. state t ≡ operated op.Adc y.now (state g.entry)) }
 {
     let sum = add(arena, g.a, y)?;

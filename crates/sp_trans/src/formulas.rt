@@ -132,7 +132,10 @@ fn quantity_term<'a>(
             operation(at.arena, *operator, x, y)
         }
         Quantity::Bound(name) => {
-            make(at.arena, Kind::Variable(Var::Bound(name_number(names, name))))
+            make(
+                at.arena,
+                Kind::Variable(Var::Bound(name_number(names, name))),
+            )
         }
     }
 }

@@ -49,11 +49,7 @@ fn are_parts<'a>(
 
 /// The word of a high and a low byte.
 #[tactic(auto, unfolding(crate::specs::Symbolic::joined))]
-pub fn joined<'a>(
-    arena: &'a Bump,
-    x: &'a Term<'a>,
-    y: &'a Term<'a>,
-) -> Result<&'a Term<'a>, Memory>
+pub fn joined<'a>(arena: &'a Bump, x: &'a Term<'a>, y: &'a Term<'a>) -> Result<&'a Term<'a>, Memory>
     ensures { IfOk result (λ t. t.now ≡ joined x.now y.now) }
 {
     let z = divided(x);

@@ -65,11 +65,7 @@ pub fn pair_decreased<'a>(arena: &'a Bump, p: Pair, g: Terms<'a>) -> Result<Term
 }
 
 /// A takes what a cell has.
-fn loaded_from<'a>(
-    arena: &'a Bump,
-    at: &'a Term<'a>,
-    g: Terms<'a>,
-) -> Result<Terms<'a>, Memory>
+fn loaded_from<'a>(arena: &'a Bump, at: &'a Term<'a>, g: Terms<'a>) -> Result<Terms<'a>, Memory>
     ensures { IfOk result (λ t. state t ≡ with_term loc.A (element (state g.entry) at.now) (state g.entry)) }
 {
     let t = element(arena, g.memory, at)?;
@@ -166,11 +162,7 @@ pub fn pushed<'a>(arena: &'a Bump, p: StackPair, g: Terms<'a>) -> Result<Terms<'
 
 /// The five flags from a byte.
 #[tactic(auto, unfolding(crate::specs::Translation::with_flag_bits))]
-fn with_flag_bits<'a>(
-    arena: &'a Bump,
-    y: &'a Term<'a>,
-    g: Terms<'a>,
-) -> Result<Terms<'a>, Memory>
+fn with_flag_bits<'a>(arena: &'a Bump, y: &'a Term<'a>, g: Terms<'a>) -> Result<Terms<'a>, Memory>
     ensures { IfOk result (λ t. state t ≡ with_flag_bits y.now (state g.entry)) }
 {
     let s = bit(arena, 7, y)?;
@@ -178,12 +170,13 @@ fn with_flag_bits<'a>(
     let ac = bit(arena, 4, y)?;
     let p = bit(arena, 2, y)?;
     let cy = bit(arena, 0, y)?;
-    Ok(g
-        .with(Loc::Cy, cy)
-        .with(Loc::P, p)
-        .with(Loc::Ac, ac)
-        .with(Loc::Z, z)
-        .with(Loc::S, s))
+    Ok(
+        g.with(Loc::Cy, cy)
+            .with(Loc::P, p)
+            .with(Loc::Ac, ac)
+            .with(Loc::Z, z)
+            .with(Loc::S, s),
+    )
 }
 
 /// The registers that a POP sets.

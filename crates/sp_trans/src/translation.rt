@@ -23,12 +23,7 @@ use sp_base::{Loc, Memory};
 use sp_isa::{Arg, Instr, Op};
 
 /// An operation between the accumulator and an operand.
-fn operated_with<'a>(
-    arena: &'a Bump,
-    o: Op,
-    y: Arg,
-    g: Terms<'a>,
-) -> Result<Terms<'a>, Memory>
+fn operated_with<'a>(arena: &'a Bump, o: Op, y: Arg, g: Terms<'a>) -> Result<Terms<'a>, Memory>
     ensures { IfOk result (λ t. state t ≡ operated o (arg_term y (state g.entry)) (state g.entry)) }
 {
     let y = arg_term(arena, y, g)?;
@@ -36,12 +31,7 @@ fn operated_with<'a>(
 }
 
 /// An operation between the accumulator and a byte.
-fn operated_with_byte<'a>(
-    arena: &'a Bump,
-    o: Op,
-    n: u8,
-    g: Terms<'a>,
-) -> Result<Terms<'a>, Memory>
+fn operated_with_byte<'a>(arena: &'a Bump, o: Op, n: u8, g: Terms<'a>) -> Result<Terms<'a>, Memory>
     ensures { IfOk result (λ t. state t ≡ operated o (number n) (state g.entry)) }
 {
     let y = number(arena, u32::from(n))?;
@@ -50,12 +40,7 @@ fn operated_with_byte<'a>(
 
 /// Every row of the table.
 #[tactic(auto, unfolding(crate::specs::Translation::applied))]
-fn translated<'a>(
-    arena: &'a Bump,
-    i: Instr,
-    number: u32,
-    g: Terms<'a>,
-) -> Result<Terms<'a>, Memory>
+fn translated<'a>(arena: &'a Bump, i: Instr, number: u32, g: Terms<'a>) -> Result<Terms<'a>, Memory>
     ensures { IfOk result (λ t. state t ≡ applied i number (state g.entry)) }
 {
     match i {
@@ -93,12 +78,7 @@ fn translated<'a>(
 }
 
 /// The symbolic state after an instruction, `number` being the number of an IN on its walk.
-pub fn apply<'a>(
-    arena: &'a Bump,
-    i: &Instr,
-    state: Sym<'a>,
-    number: u32,
-) -> Result<Sym<'a>, Memory>
+pub fn apply<'a>(arena: &'a Bump, i: &Instr, state: Sym<'a>, number: u32) -> Result<Sym<'a>, Memory>
     requires form { IsTranslated i.now }
     requires locations { length state.locs.now ≡ 12 }
     requires words { words_taken i.now ≤ length state.slots.now }
