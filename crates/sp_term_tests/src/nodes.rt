@@ -1,0 +1,290 @@
+use sp_base::Loc;
+use sp_term::{Interval, Node, Shape, Var};
+
+/// A node over nodes of rows above, with its size, its depth and its interval.
+pub struct Row {
+    pub shape: Shape,
+    pub size: u64,
+    pub depth: u32,
+    pub span: Option<Interval>,
+}
+
+/// One node of each form and more, each row at the place of its number from 0.
+pub static ROWS: [Row; 45] = [
+    Row {
+        shape: Shape::Literal(5),
+        size: 1,
+        depth: 1,
+        span: Some(Interval { low: 5, high: 5 }),
+    },
+    Row {
+        shape: Shape::Literal(-3),
+        size: 1,
+        depth: 1,
+        span: Some(Interval { low: -3, high: -3 }),
+    },
+    Row {
+        shape: Shape::Literal(0),
+        size: 1,
+        depth: 1,
+        span: Some(Interval { low: 0, high: 0 }),
+    },
+    Row {
+        shape: Shape::Truth(true),
+        size: 1,
+        depth: 1,
+        span: None,
+    },
+    Row {
+        shape: Shape::Variable(Var::Now(Loc::A)),
+        size: 1,
+        depth: 1,
+        span: Some(Interval { low: 0, high: 255 }),
+    },
+    Row {
+        shape: Shape::Variable(Var::Entry(Loc::Cy)),
+        size: 1,
+        depth: 1,
+        span: Some(Interval { low: 0, high: 1 }),
+    },
+    Row {
+        shape: Shape::Variable(Var::Mem),
+        size: 1,
+        depth: 1,
+        span: Some(Interval { low: 0, high: 255 }),
+    },
+    Row {
+        shape: Shape::Variable(Var::Any(1)),
+        size: 1,
+        depth: 1,
+        span: None,
+    },
+    Row {
+        shape: Shape::Variable(Var::Bound(1)),
+        size: 1,
+        depth: 1,
+        span: None,
+    },
+    Row {
+        shape: Shape::Add(Node(4), Node(0)),
+        size: 3,
+        depth: 2,
+        span: Some(Interval { low: 5, high: 260 }),
+    },
+    Row {
+        shape: Shape::Subtract(Node(4), Node(5)),
+        size: 3,
+        depth: 2,
+        span: Some(Interval { low: -1, high: 255 }),
+    },
+    Row {
+        shape: Shape::Multiply(Node(1), Node(4)),
+        size: 3,
+        depth: 2,
+        span: Some(Interval { low: -765, high: 0 }),
+    },
+    Row {
+        shape: Shape::Divide(Node(10), Node(0)),
+        size: 5,
+        depth: 3,
+        span: Some(Interval { low: -1, high: 51 }),
+    },
+    Row {
+        shape: Shape::Remainder(Node(7), Node(0)),
+        size: 3,
+        depth: 2,
+        span: Some(Interval { low: 0, high: 4 }),
+    },
+    Row {
+        shape: Shape::ByteAnd(Node(7), Node(7)),
+        size: 3,
+        depth: 2,
+        span: Some(Interval { low: 0, high: 255 }),
+    },
+    Row {
+        shape: Shape::ByteOr(Node(4), Node(7)),
+        size: 3,
+        depth: 2,
+        span: Some(Interval { low: 0, high: 255 }),
+    },
+    Row {
+        shape: Shape::ByteXor(Node(7), Node(4)),
+        size: 3,
+        depth: 2,
+        span: Some(Interval { low: 0, high: 255 }),
+    },
+    Row {
+        shape: Shape::Parity(Node(7)),
+        size: 2,
+        depth: 2,
+        span: Some(Interval { low: 0, high: 1 }),
+    },
+    Row {
+        shape: Shape::Bit(7, Node(7)),
+        size: 2,
+        depth: 2,
+        span: Some(Interval { low: 0, high: 1 }),
+    },
+    Row {
+        shape: Shape::Psw(Node(5), Node(5), Node(5), Node(5), Node(5)),
+        size: 6,
+        depth: 2,
+        span: Some(Interval { low: 2, high: 215 }),
+    },
+    Row {
+        shape: Shape::Equal(Node(7), Node(2)),
+        size: 3,
+        depth: 2,
+        span: None,
+    },
+    Row {
+        shape: Shape::If(Node(20), Node(1), Node(9)),
+        size: 8,
+        depth: 3,
+        span: Some(Interval { low: -3, high: 260 }),
+    },
+    Row {
+        shape: Shape::Update(Node(6), Node(7), Node(9)),
+        size: 6,
+        depth: 3,
+        span: Some(Interval { low: 0, high: 260 }),
+    },
+    Row {
+        shape: Shape::Element(Node(22), Node(8)),
+        size: 8,
+        depth: 4,
+        span: Some(Interval { low: 0, high: 260 }),
+    },
+    Row {
+        shape: Shape::Element(Node(6), Node(8)),
+        size: 3,
+        depth: 2,
+        span: Some(Interval { low: 0, high: 255 }),
+    },
+    Row {
+        shape: Shape::Total(Node(6), Node(2), Node(0)),
+        size: 4,
+        depth: 2,
+        span: Some(Interval {
+            low: 0,
+            high: 16_711_680,
+        }),
+    },
+    Row {
+        shape: Shape::Total(Node(22), Node(2), Node(0)),
+        size: 9,
+        depth: 4,
+        span: None,
+    },
+    Row {
+        shape: Shape::Less(Node(8), Node(7)),
+        size: 3,
+        depth: 2,
+        span: None,
+    },
+    Row {
+        shape: Shape::LessOrEqual(Node(8), Node(7)),
+        size: 3,
+        depth: 2,
+        span: None,
+    },
+    Row {
+        shape: Shape::Not(Node(20)),
+        size: 4,
+        depth: 3,
+        span: None,
+    },
+    Row {
+        shape: Shape::And(Node(27), Node(29)),
+        size: 8,
+        depth: 4,
+        span: None,
+    },
+    Row {
+        shape: Shape::Or(Node(27), Node(29)),
+        size: 8,
+        depth: 4,
+        span: None,
+    },
+    Row {
+        shape: Shape::Implies(Node(27), Node(29)),
+        size: 8,
+        depth: 4,
+        span: None,
+    },
+    Row {
+        shape: Shape::Iff(Node(27), Node(29)),
+        size: 8,
+        depth: 4,
+        span: None,
+    },
+    Row {
+        shape: Shape::ForAll(1, Node(2), Node(0), Node(27)),
+        size: 6,
+        depth: 3,
+        span: None,
+    },
+    Row {
+        shape: Shape::ForSome(1, Node(2), Node(8), Node(27)),
+        size: 6,
+        depth: 3,
+        span: None,
+    },
+    Row {
+        shape: Shape::Add(Node(4), Node(7)),
+        size: 3,
+        depth: 2,
+        span: None,
+    },
+    Row {
+        shape: Shape::Multiply(Node(4), Node(1)),
+        size: 3,
+        depth: 2,
+        span: None,
+    },
+    Row {
+        shape: Shape::Literal(i64::MAX),
+        size: 1,
+        depth: 1,
+        span: Some(Interval {
+            low: i64::MAX,
+            high: i64::MAX,
+        }),
+    },
+    Row {
+        shape: Shape::Add(Node(38), Node(0)),
+        size: 3,
+        depth: 2,
+        span: None,
+    },
+    Row {
+        shape: Shape::Add(Node(7), Node(0)),
+        size: 3,
+        depth: 2,
+        span: None,
+    },
+    Row {
+        shape: Shape::ForSome(1, Node(2), Node(0), Node(27)),
+        size: 6,
+        depth: 3,
+        span: None,
+    },
+    Row {
+        shape: Shape::Less(Node(8), Node(4)),
+        size: 3,
+        depth: 2,
+        span: None,
+    },
+    Row {
+        shape: Shape::ForAll(1, Node(2), Node(0), Node(42)),
+        size: 6,
+        depth: 3,
+        span: None,
+    },
+    Row {
+        shape: Shape::Update(Node(22), Node(7), Node(9)),
+        size: 11,
+        depth: 4,
+        span: Some(Interval { low: 0, high: 260 }),
+    },
+];
