@@ -25,7 +25,14 @@ inputs_are files (Asm source image) = refl
 inputs_are files (Run image options) = refl
 
 pub name_files : NameFiles
-name_files = record { inputs = inputs_are; verify = refl; none_else = refl; written = refl; written_by_verify = refl; run_writes_nothing = refl }
+name_files = record {
+  inputs = inputs_are;
+  verify = refl;
+  none_else = refl;
+  written = refl;
+  written_by_verify = refl;
+  run_writes_nothing = refl;
+}
 
 -- ---- Limits
 
@@ -47,7 +54,8 @@ within input n = (
   λ h. (replicate n 0, refl, subst (λ m. m ≤ limit input) (sym (length-replicate {A = ℕ} n 0)) h),
 )
 
-large : (input : Input) (n : ℕ) (r : Refusal) → RefusesFile input (Some (replicate n 0)) r → (r ≡ refusal.TooLarge input) × (limit input < n)
+large : (input : Input) (n : ℕ) (r : Refusal) → RefusesFile input (Some (replicate n 0)) r → (r ≡ refusal.TooLarge input)
+    × (limit input < n)
 large input n r (inl h) = absurd (some_file (replicate n 0) h.1)
 large input n r (inr h) = (h.0, subst (λ m. limit input < m) (bytes_are n h.1.0 h.1.1) h.1.2)
 

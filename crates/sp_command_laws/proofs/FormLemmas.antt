@@ -77,24 +77,29 @@ no_image_is =
     (no_asm_here (codes "verify" ∷ a ∷ b ∷ dashed ∷ []) refl) (no_run_here (codes "verify" ∷ a ∷ b ∷ dashed ∷ []) refl)
 
 too_few_is : HasNoForm (codes "verify" ∷ a ∷ b ∷ [])
-too_few_is = none (codes "verify" ∷ a ∷ b ∷ []) (verify_by_length (codes "verify" ∷ a ∷ b ∷ []) (differ 3 4 (lit< tt))) (no_asm_here (codes "verify" ∷ a ∷ b ∷ []) refl) (no_run_here (codes "verify" ∷ a ∷ b ∷ []) refl)
+too_few_is = none (codes "verify" ∷ a ∷ b ∷ []) (verify_by_length (codes "verify" ∷ a ∷ b ∷ []) (differ 3 4 (lit< tt)))
+    (no_asm_here (codes "verify" ∷ a ∷ b ∷ []) refl) (no_run_here (codes "verify" ∷ a ∷ b ∷ []) refl)
 
 too_many_is : HasNoForm (codes "verify" ∷ a ∷ b ∷ c ∷ c ∷ [])
-too_many_is = none (codes "verify" ∷ a ∷ b ∷ c ∷ c ∷ []) (verify_by_length (codes "verify" ∷ a ∷ b ∷ c ∷ c ∷ []) (apart 5 4 (lit< tt))) (no_asm_here (codes "verify" ∷ a ∷ b ∷ c ∷ c ∷ []) refl) (no_run_here (codes "verify" ∷ a ∷ b ∷ c ∷ c ∷ []) refl)
+too_many_is = none (codes "verify" ∷ a ∷ b ∷ c ∷ c ∷ []) (verify_by_length (codes "verify" ∷ a ∷ b ∷ c ∷ c ∷ []) (apart 5 4 (lit< tt)))
+    (no_asm_here (codes "verify" ∷ a ∷ b ∷ c ∷ c ∷ []) refl) (no_run_here (codes "verify" ∷ a ∷ b ∷ c ∷ c ∷ []) refl)
 
 asm_no_source_is : HasNoForm (codes "asm" ∷ dashed ∷ c ∷ [])
 asm_no_source_is =
-    none (codes "asm" ∷ dashed ∷ c ∷ []) (verify_by_letter (codes "asm" ∷ dashed ∷ c ∷ []) (differ 97 118 (lit< tt))) (λ source image h. no_name _ _ 1 h.0 refl h.1)
+    none (codes "asm" ∷ dashed ∷ c ∷ []) (verify_by_letter (codes "asm" ∷ dashed ∷ c ∷ []) (differ 97 118 (lit< tt)))
+    (λ source image h. no_name _ _ 1 h.0 refl h.1)
     (run_by_letter (codes "asm" ∷ dashed ∷ c ∷ []) (differ 97 114 (lit< tt)))
 
 asm_no_image_is : HasNoForm (codes "asm" ∷ a ∷ dashed ∷ [])
 asm_no_image_is =
-    none (codes "asm" ∷ a ∷ dashed ∷ []) (verify_by_letter (codes "asm" ∷ a ∷ dashed ∷ []) (differ 97 118 (lit< tt))) (λ source image h. no_name _ _ 2 h.0 refl h.2)
+    none (codes "asm" ∷ a ∷ dashed ∷ []) (verify_by_letter (codes "asm" ∷ a ∷ dashed ∷ []) (differ 97 118 (lit< tt)))
+    (λ source image h. no_name _ _ 2 h.0 refl h.2)
     (run_by_letter (codes "asm" ∷ a ∷ dashed ∷ []) (differ 97 114 (lit< tt)))
 
 run_no_image_is : HasNoForm (codes "run" ∷ dashed ∷ [])
 run_no_image_is =
-    none (codes "run" ∷ dashed ∷ []) (verify_by_letter (codes "run" ∷ dashed ∷ []) (differ 114 118 (lit< tt))) (asm_by_letter (codes "run" ∷ dashed ∷ []) (apart 114 97 (lit< tt)))
+    none (codes "run" ∷ dashed ∷ []) (verify_by_letter (codes "run" ∷ dashed ∷ []) (differ 114 118 (lit< tt)))
+    (asm_by_letter (codes "run" ∷ dashed ∷ []) (apart 114 97 (lit< tt)))
     (λ image options h. no_name _ _ 1 h.0 refl h.1)
 
 run_no_value_is : HasNoForm (codes "run" ∷ c ∷ codes "--pc" ∷ [])
@@ -108,7 +113,8 @@ capitals_is =
     (asm_by_letter (codes "ASM" ∷ a ∷ c ∷ []) (differ 65 97 (lit< tt))) (run_by_letter (codes "ASM" ∷ a ∷ c ∷ []) (differ 65 114 (lit< tt)))
 
 nothing_is : HasNoForm []
-nothing_is = none [] (verify_by_letter [] (differ 0 118 (lit< tt))) (asm_by_letter [] (differ 0 97 (lit< tt))) (run_by_letter [] (differ 0 114 (lit< tt)))
+nothing_is = none [] (verify_by_letter [] (differ 0 118 (lit< tt))) (asm_by_letter [] (differ 0 97 (lit< tt)))
+    (run_by_letter [] (differ 0 114 (lit< tt)))
 
 -- a letter that isn't `-`
 no_dash : (m : ℕ) → 45 < m → m ≡ 45 → ⊥

@@ -47,7 +47,8 @@ unfolding rows_of lines_from line_at cuts piece_at fault_of text_rest symbol_len
 number_line = lines_found (codes "5") (lines_in (lines_of (codes "5"))) refl
 
 no_statement : IsRefused (codes "5") 1 Syntax
-unfolding rows_of lines_from line_at cuts piece_at fault_of text_rest symbol_len number_of tokens_from statements_from statement_of coded mnemonic_at mnemonic_named name_at
+unfolding rows_of lines_from line_at cuts piece_at fault_of text_rest symbol_len number_of tokens_from statements_from statement_of coded
+    mnemonic_at mnemonic_named name_at
 no_statement = record {
   lines = lines_in (lines_of (codes "5"));
   read = number_line;
@@ -63,7 +64,16 @@ unfolding statements_from IsDistinct
 empty_assembly = record {
   lines = [];
   read = no_lines;
-  assembles = ([], from_ok [] 1 [] [] refl, record { whole = refl; places = splits_empty IsPlaced; each = splits_empty (λ above r. IsRow [] (places_of above) r); apart = tt });
+  assembles = (
+    [],
+    from_ok [] 1 [] [] refl,
+    record {
+      whole = refl;
+      places = splits_empty IsPlaced;
+      each = splits_empty (λ above r. IsRow [] (places_of above) r);
+      apart = tt;
+    },
+  );
 }
 
 no_end : IsCause [] 0 hex.NoEnd
@@ -80,7 +90,10 @@ order_refusals = record {
   scripts_next = inr ((codes "'", refl, lit≤ tt), inl (inl (refl, refl)));
   text = inr ((codes "'", refl, lit≤ tt), inl (codes "'", record { 0 = 1 }, OpenQuote, refl, refl, open_quote));
   text_before_statements =
-      inr ((codes "5" ++ 10 ∷ codes "'", refl, lit≤ tt), inl (codes "5" ++ 10 ∷ codes "'", record { 0 = 2 }, OpenQuote, refl, refl, later_quote));
+      inr (
+        (codes "5" ++ 10 ∷ codes "'", refl, lit≤ tt),
+        inl (codes "5" ++ 10 ∷ codes "'", record { 0 = 2 }, OpenQuote, refl, refl, later_quote),
+      );
   statements =
       inr (
         (codes "5", refl, lit≤ tt),

@@ -24,7 +24,8 @@ pub record PrintTexts : Type 0 where
   pub number : refusal_text (refusal.Text (record { 0 = 7 }) text.BadNumber) ≡ numbered (codes "refused Text ") 7 (codes "BadNumber")
   pub syntax : refusal_text (refusal.Asm (record { 0 = 7 }) asm.Syntax) ≡ numbered (codes "refused Asm ") 7 (codes "Syntax")
   pub past_end : refusal_text (refusal.Asm (record { 0 = 7 }) asm.PastEnd) ≡ numbered (codes "refused Asm ") 7 (codes "PastEnd")
-  pub record_sum : refusal_text (refusal.Image (record { 0 = 7 }) hex.BadSum) ≡ line (codes "refused Image " ++ (decimal 7 ++ codes " BadSum"))
+  pub record_sum : refusal_text (refusal.Image (record { 0 = 7 }) hex.BadSum)
+      ≡ line (codes "refused Image " ++ (decimal 7 ++ codes " BadSum"))
   pub no_end : refusal_text (refusal.Image (record { 0 = 0 }) hex.NoEnd) ≡ codes "refused Image NoEnd" ++ 10 ∷ []
   pub assembled : assembled_text 5 6 ≡ line (codes "assembled bytes=" ++ decimal 5 ++ codes " names=" ++ decimal 6)
   pub accepted :

@@ -20,7 +20,8 @@ here = (0, lit< tt, refl)
 
 -- a note whose names are bound as this place asks binds at the place
 module _ (note : Quantity → Note) where
-  binds : IsClosed (all_I (note I)) → (IsClosed (note I) → Contains [] (codes "I")) → (IsClosed (all_I (note J)) → Contains (codes "I" ∷ []) (codes "J")) → BindsAt note
+  binds : IsClosed (all_I (note I)) → (IsClosed (note I) → Contains [] (codes "I"))
+      → (IsClosed (all_I (note J)) → Contains (codes "I" ∷ []) (codes "J")) → BindsAt note
   binds bound outside other = record { bound = bound; outside = λ h. no_name (codes "I") (outside h); other = λ h. not_I (other h) }
 
 -- in a quantifier of K

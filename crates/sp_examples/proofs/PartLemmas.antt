@@ -52,11 +52,19 @@ stand_for_values = record {
   denied = λ f b entry now p. (λ h. (λ no. absurd (no h), λ no. absurd (no refl)), λ h. (λ no e. no_truth e, λ no. h));
   left_note = λ c q f b entry now p. (
     λ h. (connects_left c _ _ _ (λ t. refl) (λ t. h), connects_left c _ _ _ (λ t. h) (λ t. refl)),
-    λ h. (connects_left c _ _ _ (λ t. absurd (h t)) (λ e. absurd (no_truth e)), connects_left c _ _ _ (λ e. absurd (no_truth e)) (λ t. absurd (h t))),
+    λ h. (
+      connects_left c _ _ _ (λ t. absurd (h t)) (λ e. absurd (no_truth e)),
+      connects_left c _ _ _ (λ e. absurd (no_truth e))
+          (λ t. absurd (h t)),
+    ),
   );
   right_note = λ c q f b entry now p. (
     λ h. (connects_right c _ _ _ (λ t. refl) (λ t. h), connects_right c _ _ _ (λ t. h) (λ t. refl)),
-    λ h. (connects_right c _ _ _ (λ t. absurd (h t)) (λ e. absurd (no_truth e)), connects_right c _ _ _ (λ e. absurd (no_truth e)) (λ t. absurd (h t))),
+    λ h. (
+      connects_right c _ _ _ (λ t. absurd (h t)) (λ e. absurd (no_truth e)),
+      connects_right c _ _ _ (λ e. absurd (no_truth e))
+          (λ t. absurd (h t)),
+    ),
   );
   inside = λ f b entry now q name x p. one_number q (value f b x entry now) (λ i. HoldsWith f ((name, i) ∷ b) p entry now);
 }

@@ -40,4 +40,5 @@ Matters x i = (core : Core) × (v : ℕ) × DiffersAfter i core (with_location x
 -- each location that an instruction reads does so, for each instruction with the operand 5 where it has one
 abbrev pub ReadsMatter : Type 0
 ReadsMatter =
-    (first : ℕ) (i : Instr) (length : ℕ) (x : Loc) → first < 256 → decode first 5 0 ≡ Some (i, length) → has x (reads i) ≡ true → Matters x i
+    (first : ℕ) (i : Instr) (length : ℕ) (x : Loc) → first < 256 → decode first 5 0 ≡ Some (i, length) → has x (reads i) ≡ true
+    → Matters x i

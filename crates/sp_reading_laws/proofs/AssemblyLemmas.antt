@@ -36,15 +36,19 @@ use Rattle.sp_asm.proofs.SplitLaws.{AllSplits, splits_empty, splits_more}
 -- ---- Values
 
 module _ (names : List ℕ → Option ℕ) (here : ℕ) (ws : List Word) (sentence : is_sentence ws ≡ true) where
-  pub valued : (value : ℕ) → first_undefined names ws ≡ None → finished (run names here start ws) ≡ Some value → HasValue names here ws value
+  pub valued : (value : ℕ) → first_undefined names ws ≡ None → finished (run names here start ws) ≡ Some value
+      → HasValue names here ws value
   valued value defined is =
       let t = sentence_is_spelled Statement ws sentence in
       record { defined = defined; tree = t.0; spells = t.1; value_is = sym (value_is Statement names here ws t.0 t.1) ∙ is }
 
   pub divided : first_undefined names ws ≡ None → finished (run names here start ws) ≡ None → HasNoValue names here ws
-  divided defined is = let t = sentence_is_spelled Statement ws sentence in inr (defined, (t.0, t.1, sym (value_is Statement names here ws t.0 t.1) ∙ is))
+  divided defined is =
+      let t = sentence_is_spelled Statement ws sentence in
+      inr (defined, (t.0, t.1, sym (value_is Statement names here ws t.0 t.1) ∙ is))
 
-pub unnamed : (names : List ℕ → Option ℕ) (here : ℕ) (ws : List Word) (name : List ℕ) → first_undefined names ws ≡ Some name → HasNoValue names here ws
+pub unnamed : (names : List ℕ → Option ℕ) (here : ℕ) (ws : List Word) (name : List ℕ) → first_undefined names ws ≡ Some name
+    → HasNoValue names here ws
 unnamed names here ws name is = inl (name, is)
 
 -- ---- Places
@@ -66,7 +70,8 @@ module _ {A : Type 0} (P : List A → A → Type 0) where
 pub placed : (above : List Place) (p : Place) → p.address ≡ address_after above → is_duplicate above p.statement ≡ false
     → HasPlaceValue (uses_names_above p.statement.code) (names_above above) (p.address % 65536) p.statement.operands p.value
     → p.address < 65536 → next_address p ≤ 65536 → IsPlaced above p
-placed above p at apart value low within = record { address = at; apart = apart; value = value; room = record { label = λ h. low; behind = within } }
+placed above p at apart value low within =
+    record { address = at; apart = apart; value = value; room = record { label = λ h. low; behind = within } }
 
 abbrev pub RowAt : List Place → List Row → Row → Type 0
 RowAt all above r = IsRow all (places_of above) r
@@ -78,28 +83,40 @@ Statements = List statements.Statement
 
 module _ (source : List ℕ) (lines : List SourceLine) (read : lines_of source ≡ Ok lines) where
   pub assembled : (rows : List Row) → statements_of source lines ≡ Ok (map (λ (p : Place). p.statement) (places_of rows))
-      → EachBelow IsPlaced [] (places_of rows) → EachBelow (RowAt (places_of rows)) [] rows → IsDistinct nat_eq (addresses_of rows) → HasAssembly source rows
+      → EachBelow IsPlaced [] (places_of rows) → EachBelow (RowAt (places_of rows)) [] rows → IsDistinct nat_eq (addresses_of rows)
+      → HasAssembly source rows
   assembled rows are places each apart = record {
     lines = lines;
     read = lines_found source lines read;
     assembles = (
       map (λ (p : Place). p.statement) (places_of rows),
       from_ok source 1 lines (map (λ (p : Place). p.statement) (places_of rows)) are,
-      record { whole = refl; places = each_split IsPlaced (places_of rows) places; each = each_split (RowAt (places_of rows)) rows each; apart = apart },
+      record {
+        whole = refl;
+        places = each_split IsPlaced (places_of rows) places;
+        each = each_split (RowAt (places_of rows)) rows each;
+        apart = apart;
+      },
     );
   }
 
   pub too_deep : (at : ℕ) → statements_of source lines ≡ Err (fault unread.TooDeep at) → IsRefused source at TooDeep
-  too_deep at are = record { lines = lines; read = lines_found source lines read; cause = right_by source lines (Err (refused.At (record { 0 = at }) unread.TooDeep)) are }
+  too_deep at are = record {
+    lines = lines;
+    read = lines_found source lines read;
+    cause = right_by source lines (Err (refused.At (record { 0 = at }) unread.TooDeep)) are;
+  }
 
-  pub refused_first : (all : Statements) (at : ℕ) (kind : AsmKind) → statements_of source lines ≡ Ok all → FirstRound all at kind → IsRefused source at kind
+  pub refused_first : (all : Statements) (at : ℕ) (kind : AsmKind) → statements_of source lines ≡ Ok all → FirstRound all at kind
+      → IsRefused source at kind
   refused_first all at kind are round = record {
     lines = lines;
     read = lines_found source lines read;
     cause = first_is_cause source lines all (from_ok source 1 lines all are) (refused.At (record { 0 = at }) kind) round;
   }
 
-  pub refused_second : (all : Statements) (at : ℕ) (kind : AsmKind) → statements_of source lines ≡ Ok all → SecondRound all at kind → IsRefused source at kind
+  pub refused_second : (all : Statements) (at : ℕ) (kind : AsmKind) → statements_of source lines ≡ Ok all → SecondRound all at kind
+      → IsRefused source at kind
   refused_second all at kind are round = record {
     lines = lines;
     read = lines_found source lines read;
@@ -122,9 +139,11 @@ abbrev pub lack : Statements → (List ℕ → Option ℕ) → List Operand → 
 lack all names operands = fault_of names (declared_by all) operands
 
 -- a statement that uses the names above is refused in the first round
-pub first_round : (all below : Statements) (above : List Place) (s : statements.Statement) → all ≡ map (λ (p : Place). p.statement) above ++ s ∷ below
+pub first_round : (all below : Statements) (above : List Place) (s : statements.Statement) → all ≡ map (λ (p : Place). p.statement) above
+    ++ s ∷ below
     → EachBelow IsPlaced [] above → is_duplicate above s ≡ false → uses_names_above s.code ≡ true
-    → OneIsWithoutValue (names_above above) (address_after above % 65536) s.operands → FirstRound all s.line.0 (lack all (names_above above) s.operands)
+    → OneIsWithoutValue (names_above above) (address_after above % 65536) s.operands
+    → FirstRound all s.line.0 (lack all (names_above above) s.operands)
 first_round all below above s whole places apart uses without = record {
   above = above;
   broken = s;
@@ -138,8 +157,10 @@ first_round all below above s whole places apart uses without = record {
 }
 
 -- the first statement of a source that uses all names is refused in the second round
-pub second_round : (all : Statements) (places : List Place) (p : Place) (below : List Place) → map (λ (q : Place). q.statement) places ≡ all → EachBelow IsPlaced [] places
-    → places ≡ p ∷ below → uses_names_above p.statement.code ≡ false → OneIsWithoutValue (names_at places []) (p.address % 65536) p.statement.operands
+pub second_round : (all : Statements) (places : List Place) (p : Place) (below : List Place) → map (λ (q : Place). q.statement) places ≡ all
+    → EachBelow IsPlaced [] places
+    → places ≡ p ∷ below → uses_names_above p.statement.code ≡ false
+    → OneIsWithoutValue (names_at places []) (p.address % 65536) p.statement.operands
     → IsDistinct nat_eq (addresses_of []) → SecondRound all p.statement.line.0 (lack all (names_at places []) p.statement.operands)
 second_round all places p below whole are parts uses without apart = record {
   all = places;

@@ -104,7 +104,8 @@ equ_given_is =
       rows = equ_given_rows;
       assembly =
           assembled source (lines_in (lines_of source)) refl equ_given_rows refl (
-            placed [] equ_given_1 refl refl (1 ∷ [], (valued (names_above []) 0 (quotient 1 1) refl 1 refl refl, tt), refl) (lit< tt) (lit≤ tt),
+            placed [] equ_given_1 refl refl (1 ∷ [], (valued (names_above []) 0 (quotient 1 1) refl 1 refl refl, tt), refl) (lit< tt)
+                (lit≤ tt),
             tt,
           ) (
             refl,
@@ -125,7 +126,12 @@ equ_by_zero_is =
     refused_first source (lines_in (lines_of source)) refl (equ 1 (quotient 1 0) ∷ []) 1 ZeroDivisor refl
     (first_round (equ 1 (quotient 1 0) ∷ []) ([]) [] (equ 1 (quotient 1 0)) refl
     tt
-    refl refl (operand.Word (quotient 1 0), first_of (operand.Word (quotient 1 0)), divided (names_above []) 0 (quotient 1 0) refl refl refl))
+    refl refl (
+      operand.Word (quotient 1 0),
+      first_of (operand.Word (quotient 1 0)),
+      divided (names_above []) 0 (quotient 1 0) refl refl
+          refl,
+    ))
 
 abbrev item_1 : Place
 item_1 = place (db 1 (quotient 1 1)) 0 0
@@ -170,7 +176,12 @@ item_by_zero_is =
       placed [] item_by_zero_1 refl refl refl (lit< tt) (lit≤ tt),
       tt,
     )
-    refl refl (operand.Byte (quotient 1 0), first_of (operand.Byte (quotient 1 0)), divided (names_at (item_by_zero_1 ∷ []) []) 0 (quotient 1 0) refl refl refl) tt)
+    refl refl (
+      operand.Byte (quotient 1 0),
+      first_of (operand.Byte (quotient 1 0)),
+      divided (names_at (item_by_zero_1 ∷ []) []) 0
+          (quotient 1 0) refl refl refl,
+    ) tt)
 
 abbrev name_first_1 : Place
 name_first_1 = place (db 1 quotient_and_name) 0 0
@@ -187,7 +198,12 @@ name_first_is =
       placed [] name_first_1 refl refl refl (lit< tt) (lit≤ tt),
       tt,
     )
-    refl refl (operand.Byte (quotient_and_name), first_of (operand.Byte (quotient_and_name)), unnamed (names_at (name_first_1 ∷ []) []) 0 (quotient_and_name) X refl) tt)
+    refl refl (
+      operand.Byte (quotient_and_name),
+      first_of (operand.Byte (quotient_and_name)),
+      unnamed (names_at (name_first_1 ∷ []) []) 0
+          (quotient_and_name) X refl,
+    ) tt)
 
 abbrev rounds_1 : Place
 rounds_1 = place (db 1 (quotient 1 0)) 0 0
@@ -204,7 +220,12 @@ rounds_is =
       placed [] rounds_1 refl refl refl (lit< tt) (lit≤ tt),
       tt,
     )
-    refl refl (operand.Word (quotient 1 0), first_of (operand.Word (quotient 1 0)), divided (names_above (rounds_1 ∷ [])) 1 (quotient 1 0) refl refl refl))
+    refl refl (
+      operand.Word (quotient 1 0),
+      first_of (operand.Word (quotient 1 0)),
+      divided (names_above (rounds_1 ∷ [])) 1 (quotient 1 0)
+          refl refl refl,
+    ))
 
 pub divides_by_zero : DividesByZero
 divides_by_zero = record {
@@ -231,7 +252,8 @@ abbrev last_above_4 : Place
 last_above_4 = place (db 4 name) 1 0
 
 abbrev last_above_rows : List Row
-last_above_rows = with_values last_above_1 [] ∷ with_values last_above_2 (1 ∷ []) ∷ with_values last_above_3 [] ∷ with_values last_above_4 (2 ∷ []) ∷ []
+last_above_rows = with_values last_above_1 [] ∷ with_values last_above_2 (1 ∷ []) ∷ with_values last_above_3 []
+    ∷ with_values last_above_4 (2 ∷ []) ∷ []
 
 pub last_above_is : Gives (source_of (codes "X SET 1" ∷ codes "DB X" ∷ codes "X SET 2" ∷ codes "DB X" ∷ [])) ((0, 1) ∷ (1, 2) ∷ []) (x_is 2)
 unfolding rows_of lines_from line_at cuts piece_at fault_of text_rest symbol_len number_of tokens_from statements_from statement_of coded
@@ -244,11 +266,14 @@ last_above_is =
       rows = last_above_rows;
       assembly =
           assembled source (lines_in (lines_of source)) refl last_above_rows refl (
-            placed [] last_above_1 refl refl (1 ∷ [], (valued (names_above []) 0 (number 1) refl 1 refl refl, tt), refl) (lit< tt) (lit≤ tt),
+            placed [] last_above_1 refl refl (1 ∷ [], (valued (names_above []) 0 (number 1) refl 1 refl refl, tt), refl) (lit< tt)
+                (lit≤ tt),
             (
               placed (last_above_1 ∷ []) last_above_2 refl refl refl (lit< tt) (lit≤ tt),
               (
-                placed (last_above_1 ∷ last_above_2 ∷ []) last_above_3 refl refl (2 ∷ [], (valued (names_above (last_above_1 ∷ last_above_2 ∷ [])) 1 (number 2) refl 2 refl refl, tt), refl) (lit< tt) (lit≤ tt),
+                placed (last_above_1 ∷ last_above_2 ∷ []) last_above_3 refl refl
+                    (2 ∷ [], (valued (names_above (last_above_1 ∷ last_above_2 ∷ [])) 1 (number 2) refl 2 refl refl, tt), refl) (lit< tt)
+                    (lit≤ tt),
                 (
                   placed (last_above_1 ∷ last_above_2 ∷ last_above_3 ∷ []) last_above_4 refl refl refl (lit< tt) (lit≤ tt),
                   tt,
@@ -258,11 +283,25 @@ last_above_is =
           ) (
             refl,
             (
-              ((valued (names_at (last_above_1 ∷ last_above_2 ∷ last_above_3 ∷ last_above_4 ∷ []) (last_above_1 ∷ [])) 0 (name) refl 1 refl refl, tt), refl),
+              (
+                (
+                  valued (names_at (last_above_1 ∷ last_above_2 ∷ last_above_3 ∷ last_above_4 ∷ []) (last_above_1 ∷ [])) 0 (name) refl 1 refl
+                      refl,
+                  tt,
+                ),
+                refl,
+              ),
               (
                 refl,
                 (
-                  ((valued (names_at (last_above_1 ∷ last_above_2 ∷ last_above_3 ∷ last_above_4 ∷ []) (last_above_1 ∷ last_above_2 ∷ last_above_3 ∷ [])) 1 (name) refl 2 refl refl, tt), refl),
+                  (
+                    (
+                      valued (names_at (last_above_1 ∷ last_above_2 ∷ last_above_3 ∷ last_above_4 ∷ [])
+                          (last_above_1 ∷ last_above_2 ∷ last_above_3 ∷ [])) 1 (name) refl 2 refl refl,
+                      tt,
+                    ),
+                    refl,
+                  ),
                   tt,
                 ),
               ),
@@ -298,7 +337,8 @@ of_itself_is =
           assembled source (lines_in (lines_of source)) refl of_itself_rows refl (
             placed [] of_itself_1 refl refl (1 ∷ [], (valued (names_above []) 0 (number 1) refl 1 refl refl, tt), refl) (lit< tt) (lit≤ tt),
             (
-              placed (of_itself_1 ∷ []) of_itself_2 refl refl (2 ∷ [], (valued (names_above (of_itself_1 ∷ [])) 0 (name_and_one) refl 2 refl refl, tt), refl) (lit< tt) (lit≤ tt),
+              placed (of_itself_1 ∷ []) of_itself_2 refl refl
+                  (2 ∷ [], (valued (names_above (of_itself_1 ∷ [])) 0 (name_and_one) refl 2 refl refl, tt), refl) (lit< tt) (lit≤ tt),
               (
                 placed (of_itself_1 ∷ of_itself_2 ∷ []) of_itself_3 refl refl refl (lit< tt) (lit≤ tt),
                 tt,
@@ -309,7 +349,14 @@ of_itself_is =
             (
               refl,
               (
-                ((valued (names_at (of_itself_1 ∷ of_itself_2 ∷ of_itself_3 ∷ []) (of_itself_1 ∷ of_itself_2 ∷ [])) 0 (name) refl 2 refl refl, tt), refl),
+                (
+                  (
+                    valued (names_at (of_itself_1 ∷ of_itself_2 ∷ of_itself_3 ∷ []) (of_itself_1 ∷ of_itself_2 ∷ [])) 0 (name) refl 2 refl
+                        refl,
+                    tt,
+                  ),
+                  refl,
+                ),
                 tt,
               ),
             ),
@@ -336,11 +383,17 @@ above_first_is =
     (second_round (db 1 name ∷ set 2 (number 1) ∷ []) (above_first_1 ∷ above_first_2 ∷ []) above_first_1 (above_first_2 ∷ []) refl (
       placed [] above_first_1 refl refl refl (lit< tt) (lit≤ tt),
       (
-        placed (above_first_1 ∷ []) above_first_2 refl refl (1 ∷ [], (valued (names_above (above_first_1 ∷ [])) 1 (number 1) refl 1 refl refl, tt), refl) (lit< tt) (lit≤ tt),
+        placed (above_first_1 ∷ []) above_first_2 refl refl
+            (1 ∷ [], (valued (names_above (above_first_1 ∷ [])) 1 (number 1) refl 1 refl refl, tt), refl) (lit< tt) (lit≤ tt),
         tt,
       ),
     )
-    refl refl (operand.Byte (name), first_of (operand.Byte (name)), unnamed (names_at (above_first_1 ∷ above_first_2 ∷ []) []) 0 (name) X refl) tt)
+    refl refl (
+      operand.Byte (name),
+      first_of (operand.Byte (name)),
+      unnamed (names_at (above_first_1 ∷ above_first_2 ∷ []) []) 0 (name) X
+          refl,
+    ) tt)
 
 abbrev above_equ_1 : Place
 above_equ_1 = place (db 1 name) 0 0
@@ -364,7 +417,8 @@ above_equ_is =
           assembled source (lines_in (lines_of source)) refl above_equ_rows refl (
             placed [] above_equ_1 refl refl refl (lit< tt) (lit≤ tt),
             (
-              placed (above_equ_1 ∷ []) above_equ_2 refl refl (1 ∷ [], (valued (names_above (above_equ_1 ∷ [])) 1 (number 1) refl 1 refl refl, tt), refl) (lit< tt) (lit≤ tt),
+              placed (above_equ_1 ∷ []) above_equ_2 refl refl
+                  (1 ∷ [], (valued (names_above (above_equ_1 ∷ [])) 1 (number 1) refl 1 refl refl, tt), refl) (lit< tt) (lit≤ tt),
               tt,
             ),
           ) (
@@ -496,7 +550,8 @@ expression_is =
       rows = expression_rows;
       assembly =
           assembled source (lines_in (lines_of source)) refl expression_rows refl (
-            placed [] expression_1 refl refl (5 ∷ [], (valued (names_above []) 0 (number 5) refl 5 refl refl, tt), refl) (lit< tt) (lit≤ tt),
+            placed [] expression_1 refl refl (5 ∷ [], (valued (names_above []) 0 (number 5) refl 5 refl refl, tt), refl) (lit< tt)
+                (lit≤ tt),
             (
               placed (expression_1 ∷ []) expression_2 refl refl refl (lit< tt) (lit≤ tt),
               tt,
@@ -573,7 +628,12 @@ end_by_zero_is =
       placed [] end_by_zero_1 refl refl refl (lit< tt) (lit≤ tt),
       tt,
     )
-    refl refl (operand.Word (quotient 1 0), first_of (operand.Word (quotient 1 0)), divided (names_at (end_by_zero_1 ∷ []) []) 0 (quotient 1 0) refl refl refl) tt)
+    refl refl (
+      operand.Word (quotient 1 0),
+      first_of (operand.Word (quotient 1 0)),
+      divided (names_at (end_by_zero_1 ∷ []) []) 0
+          (quotient 1 0) refl refl refl,
+    ) tt)
 
 pub ends_there : EndsThere
 ends_there = record {

@@ -107,20 +107,24 @@ abbrev Reads : ℕ → Tree → Type 0
 Reads zero t = (l : Level) (outer : List Level) (operand : Tree) (rest : List Word)
     → run (state l outer operand false) (spelling t ++ rest) ≡ run (state l outer t true) rest
 Reads (suc zero) t = (o a : Option Pending) (b : ℕ) (s : Option Pending) (outer : List Level) (operand : Tree) (rest : List Word)
-    → (p : Option Pending) × (v : Tree) × (run (state (level o a b s None) outer operand false) (spelling t ++ rest) ≡ run (state (level o a b s p) outer v true) rest)
+    → (p : Option Pending) × (v : Tree)
+    × (run (state (level o a b s None) outer operand false) (spelling t ++ rest) ≡ run (state (level o a b s p) outer v true) rest)
     × (settled p v ≡ t)
 Reads (suc (suc zero)) t = (o a : Option Pending) (b : ℕ) (outer : List Level) (operand : Tree) (rest : List Word)
-    → (s p : Option Pending) × (v : Tree) × (run (state (level o a b None None) outer operand false) (spelling t ++ rest) ≡ run (state (level o a b s p) outer v true) rest)
+    → (s p : Option Pending) × (v : Tree)
+    × (run (state (level o a b None None) outer operand false) (spelling t ++ rest) ≡ run (state (level o a b s p) outer v true) rest)
     × (settled s (settled p v) ≡ t)
 Reads (suc (suc (suc zero))) t = (o a : Option Pending) (b : ℕ) (outer : List Level) (operand : Tree) (rest : List Word)
-    → (c : ℕ) × (s p : Option Pending) × (v : Tree) × (run (state (level o a b None None) outer operand false) (spelling t ++ rest) ≡ run (state (level o a c s p) outer v true) rest)
+    → (c : ℕ) × (s p : Option Pending) × (v : Tree)
+    × (run (state (level o a b None None) outer operand false) (spelling t ++ rest) ≡ run (state (level o a c s p) outer v true) rest)
     × (with_nots c (settled s (settled p v)) ≡ with_nots b t)
 Reads (suc (suc (suc (suc zero)))) t = (o : Option Pending) (outer : List Level) (operand : Tree) (rest : List Word)
     → (a : Option Pending) × (c : ℕ) × (s p : Option Pending) × (v : Tree)
     × (run (state (level o None 0 None None) outer operand false) (spelling t ++ rest) ≡ run (state (level o a c s p) outer v true) rest)
     × (settled a (with_nots c (settled s (settled p v))) ≡ t)
 Reads (suc (suc (suc (suc (suc r))))) t = (outer : List Level) (operand : Tree) (rest : List Word)
-    → (l : Level) × (v : Tree) × (run (state empty outer operand false) (spelling t ++ rest) ≡ run (state l outer v true) rest) × (value_with l v ≡ t)
+    → (l : Level) × (v : Tree) × (run (state empty outer operand false) (spelling t ++ rest) ≡ run (state l outer v true) rest)
+    × (value_with l v ≡ t)
 
 up : (r : ℕ) (t : Tree) → Reads r t → Reads (suc r) t
 up zero t h = λ o a b s outer operand rest. (None, t, h (level o a b s None) outer operand rest, refl)
@@ -161,11 +165,13 @@ last_is : (outer : List Level) (l : Level) → get_or (outer ++ l ∷ []) (lengt
 last_is [] l = refl
 last_is (first ∷ outer) l = last_is outer l
 
-popped : (l : Level) (outer : List Level) (v : Tree) (inside : Level) → closed (state inside (outer ++ l ∷ []) v true) ≡ state l outer (Paren (value_with inside v)) true
+popped : (l : Level) (outer : List Level) (v : Tree) (inside : Level) → closed (state inside (outer ++ l ∷ []) v true)
+    ≡ state l outer (Paren (value_with inside v)) true
 popped l outer v inside =
     let n : length (outer ++ l ∷ []) - 1 ≡ length outer = omega (arith, length-append outer (l ∷ [])) in
     ap (λ k. state (get_or (outer ++ l ∷ []) k empty) (take k (outer ++ l ∷ [])) (Paren (value_with inside v)) true) n
-    ∙ ap (λ front. state (get_or (outer ++ l ∷ []) (length outer) empty) front (Paren (value_with inside v)) true) (take-append_seam outer (l ∷ []))
+    ∙ ap (λ front. state (get_or (outer ++ l ∷ []) (length outer) empty) front (Paren (value_with inside v)) true)
+    (take-append_seam outer (l ∷ []))
     ∙ ap (λ last. state last outer (Paren (value_with inside v)) true) (last_is outer l)
 
 paren : (t : Tree) → Reads 5 t → Reads 0 (Paren t)
@@ -193,11 +199,13 @@ operator_read : (operator : Operator) (rank : ℕ) (l : Level) (outer : List Lev
 unfolding run
 operator_read operator rank l outer v rest e = ap (λ k. run (state (after_rank k operator l v) outer v false) rest) e
 
-binary_words : (operator : Operator) (l r : Tree) (rest : List Word) → spelling (Binary operator l r) ++ rest ≡ spelling l ++ words.Operator operator ∷ (spelling r ++ rest)
+binary_words : (operator : Operator) (l r : Tree) (rest : List Word) → spelling (Binary operator l r) ++ rest ≡ spelling l
+    ++ words.Operator operator ∷ (spelling r ++ rest)
 unfolding spelling
 binary_words operator l r rest = append_assoc (spelling l) (words.Operator operator ∷ spelling r) rest
 
-binary_read : (operator : Operator) (rank : ℕ) (l r : Tree) → rank_of operator ≡ suc rank → Reads (suc rank) l → Reads rank r → Reads (suc rank) (Binary operator l r)
+binary_read : (operator : Operator) (rank : ℕ) (l r : Tree) → rank_of operator ≡ suc rank → Reads (suc rank) l → Reads rank r
+    → Reads (suc rank) (Binary operator l r)
 binary_read operator zero l r e hl hr = λ o a b s outer operand rest.
     let k = hl o a b s outer operand (words.Operator operator ∷ (spelling r ++ rest)) in
     let next = pending operator (settled k.0 k.1) in (
@@ -261,7 +269,8 @@ reads setting (Binary operator l r) h =
     (subst (λ k. Reads k l) e (up_to (rank_of_tree l) (rank_of operator) l h.0 (reads setting l h.2)))
     (up_to (rank_of_tree r) (rank_of operator - 1) r (omega (arith, h.1)) (reads setting r h.3)))
 
-tree_is : (setting : Setting) (ws : List Word) (t : Tree) → SpellsIn setting ws t → value_with (run start ws).level (run start ws).operand ≡ t
+tree_is : (setting : Setting) (ws : List Word) (t : Tree) → SpellsIn setting ws t → value_with (run start ws).level (run start ws).operand
+    ≡ t
 unfolding run
 tree_is setting ws t h =
     let k = up_to (rank_of_tree t) 5 t (tree_bound t) (reads setting t h.grammar) [] Here [] in

@@ -20,7 +20,8 @@ stopped_ends : (s : State) (limit steps : ℕ) → HasStopped s.core → EndsAft
 stopped_ends s limit zero stopped h = refl
 stopped_ends s limit (suc steps) stopped h = absurd (h.going 0 (omega arith) stopped)
 
-goes_on : (s : State) (limit steps : ℕ) → (¬ HasStopped s.core) → EndsAfter s (limit + 1) steps → (more : ℕ) × (steps ≡ more + 1) × EndsAfter (step s) limit more
+goes_on : (s : State) (limit steps : ℕ) → (¬ HasStopped s.core) → EndsAfter s (limit + 1) steps → (more : ℕ) × (steps ≡ more + 1)
+    × EndsAfter (step s) limit more
 goes_on s limit zero going h = elim h.ended [ inl last ↦ absurd (omega arith) | inr stopped ↦ absurd (going stopped) ]
 goes_on s limit (suc more) going h = (
   more,
@@ -35,7 +36,8 @@ goes_on s limit (suc more) going h = (
   },
 )
 
-comes_from : (s : State) (limit steps : ℕ) → (¬ HasStopped s.core) → (more : ℕ) × (steps ≡ more + 1) × EndsAfter (step s) limit more → EndsAfter s (limit + 1) steps
+comes_from : (s : State) (limit steps : ℕ) → (¬ HasStopped s.core) → (more : ℕ) × (steps ≡ more + 1) × EndsAfter (step s) limit more
+    → EndsAfter s (limit + 1) steps
 comes_from s limit zero going h = let one = h.1 in absurd (omega arith)
 comes_from s limit (suc steps) going h =
     let same : h.0 ≡ steps = let one = h.1 in omega arith in
@@ -51,7 +53,8 @@ comes_from s limit (suc steps) going h =
   where
     before : EndsAfter (step s) limit steps → (¬ HasStopped s.core) → (k : ℕ) → k < suc steps → ¬ HasStopped (run s k).core
     before after going zero low = going
-    before after going (suc k) low = λ stopped. after.going k (omega arith) (subst (λ (t : State). HasStopped t.core) (run_first s k) stopped)
+    before after going (suc k) low =
+    λ stopped. after.going k (omega arith) (subst (λ (t : State). HasStopped t.core) (run_first s k) stopped)
 
 running : false ≡ true → ⊥
 running e = cc
@@ -60,7 +63,8 @@ pub ends_at_stop : EndsAtStop
 unfolding decode form
 ends_at_stop = record {
   no_step = λ s steps. (none s steps, λ e. subst (EndsAfter s 0) (sym e) (ends_here s 0 (inl refl)));
-  stopped = λ s limit steps stopped. (stopped_ends s limit steps stopped, λ e. subst (EndsAfter s limit) (sym e) (ends_here s limit (inr stopped)));
+  stopped = λ s limit steps stopped.
+      (stopped_ends s limit steps stopped, λ e. subst (EndsAfter s limit) (sym e) (ends_here s limit (inr stopped)));
   going = λ s limit steps going. (goes_on s limit steps going, comes_from s limit steps going);
   halted = inl refl;
   stuck = inr refl;

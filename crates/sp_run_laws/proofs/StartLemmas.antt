@@ -37,7 +37,8 @@ unfolding zeros
 zeros_are = All-replicate (λ byte. byte ≡ 0) 65536 0 refl
 
 abbrev blank : Core
-blank = record { b = 0; c = 0; d = 0; e = 0; h = 0; l = 0; a = 0; s = 0; z = 0; ac = 0; p = 0; cy = 0; sp = 0; pc = 0; halted = false; cells = zeros }
+blank = record { b = 0; c = 0; d = 0; e = 0; h = 0; l = 0; a = 0; s = 0; z = 0; ac = 0; p = 0; cy = 0; sp = 0; pc = 0; halted =
+    false; cells = zeros }
 
 blank_at : (x : Loc) → at x blank ≡ 0
 blank_at loc.A = refl
@@ -107,7 +108,8 @@ one_input (setting.Input byte) = refl
 one_input (setting.Cell a byte) = refl
 
 one_more : (image : ImageMap) (s : State) (settings : List Setting) (one : Setting) → IsStart image (options None settings) s
-    → IsStart image (options None (settings ++ one ∷ [])) (record { core = with_setting one s.core; inputs = s.inputs ++ option_to_list (input_of one); outputs = s.outputs })
+    → IsStart image (options None (settings ++ one ∷ []))
+    (record { core = with_setting one s.core; inputs = s.inputs ++ option_to_list (input_of one); outputs = s.outputs })
 one_more image s settings one h = record {
   core = record {
     blank = h.core.blank;
@@ -116,7 +118,8 @@ one_more image s settings one h = record {
     has_image = h.core.has_image;
     set = ap (with_setting one) h.core.set ∙ sym (fold-append (λ core x. with_setting x core) h.core.loaded settings (one ∷ []));
   };
-  inputs = ap (λ inputs. inputs ++ option_to_list (input_of one)) h.inputs ∙ ap (λ last. inputs_of settings ++ last) (one_input one) ∙ sym (filter_map-append input_of settings (one ∷ []));
+  inputs = ap (λ inputs. inputs ++ option_to_list (input_of one)) h.inputs ∙ ap (λ last. inputs_of settings ++ last) (one_input one)
+      ∙ sym (filter_map-append input_of settings (one ∷ []));
   outputs = h.outputs;
 }
 
@@ -139,7 +142,8 @@ starts_with_image = record {
   image = alone;
   some = (
     record { core = blank; inputs = []; outputs = [] },
-    record { core = record { blank = blank; loaded = blank; all_zero = blank_is; has_image = loads_nothing; set = refl }; inputs = refl; outputs = refl },
+    record { core = record { blank = blank; loaded = blank; all_zero = blank_is; has_image = loads_nothing; set = refl }; inputs =
+    refl; outputs = refl },
   );
   setting = one_more;
   counter = with_counter;

@@ -101,7 +101,11 @@ registers = codes "A=A7 B=11 C=22 D=33 E=44 H=55 L=66 S=1 Z=0 AC=1 P=0 CY=1 SP=2
 
 -- the text of a run: its outputs in order, and the last state with the count of its steps and how it ended
 pub record HasTexts : Type 0 where
-  pub halted : run_text 30 12 (state (core_with true (8 ∷ []))) ≡ outputs ++ registers ++ decimal 12 ++ codes " " ++ codes "halted" ++ 10 ∷ []
-  pub stuck : run_text 30 12 (state (core_with false (8 ∷ []))) ≡ outputs ++ registers ++ decimal 12 ++ codes " " ++ codes "stuck 08" ++ 10 ∷ []
-  pub running : run_text 30 30 (state (core_with false (8 ∷ []))) ≡ outputs ++ registers ++ decimal 30 ++ codes " " ++ codes "running" ++ 10 ∷ []
-  pub without : run_text 30 0 (record { core = core_with true []; inputs = []; outputs = [] }) ≡ registers ++ decimal 0 ++ codes " " ++ codes "halted" ++ 10 ∷ []
+  pub halted : run_text 30 12 (state (core_with true (8 ∷ []))) ≡ outputs ++ registers ++ decimal 12 ++ codes " " ++ codes "halted" ++ 10
+      ∷ []
+  pub stuck : run_text 30 12 (state (core_with false (8 ∷ []))) ≡ outputs ++ registers ++ decimal 12 ++ codes " " ++ codes "stuck 08" ++ 10
+      ∷ []
+  pub running : run_text 30 30 (state (core_with false (8 ∷ []))) ≡ outputs ++ registers ++ decimal 30 ++ codes " " ++ codes "running" ++ 10
+      ∷ []
+  pub without : run_text 30 0 (record { core = core_with true []; inputs = []; outputs = [] }) ≡ registers ++ decimal 0 ++ codes " "
+      ++ codes "halted" ++ 10 ∷ []
