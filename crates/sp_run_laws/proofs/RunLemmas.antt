@@ -54,7 +54,7 @@ comes_from s limit (suc steps) going h =
     before : EndsAfter (step s) limit steps → (¬ HasStopped s.core) → (k : ℕ) → k < suc steps → ¬ HasStopped (run s k).core
     before after going zero low = going
     before after going (suc k) low =
-    λ stopped. after.going k (omega arith) (subst (λ (t : State). HasStopped t.core) (run_first s k) stopped)
+        λ stopped. after.going k (omega arith) (subst (λ (t : State). HasStopped t.core) (run_first s k) stopped)
 
 running : false ≡ true → ⊥
 running e = cc

@@ -37,8 +37,25 @@ unfolding zeros
 zeros_are = All-replicate (λ byte. byte ≡ 0) 65536 0 refl
 
 abbrev blank : Core
-blank = record { b = 0; c = 0; d = 0; e = 0; h = 0; l = 0; a = 0; s = 0; z = 0; ac = 0; p = 0; cy = 0; sp = 0; pc = 0; halted =
-    false; cells = zeros }
+blank = record {
+  b = 0;
+  c = 0;
+  d = 0;
+  e = 0;
+  h = 0;
+  l = 0;
+  a = 0;
+  s = 0;
+  z = 0;
+  ac = 0;
+  p = 0;
+  cy = 0;
+  sp = 0;
+  pc = 0;
+  halted =
+      false;
+  cells = zeros;
+}
 
 blank_at : (x : Loc) → at x blank ≡ 0
 blank_at loc.A = refl
@@ -142,8 +159,12 @@ starts_with_image = record {
   image = alone;
   some = (
     record { core = blank; inputs = []; outputs = [] },
-    record { core = record { blank = blank; loaded = blank; all_zero = blank_is; has_image = loads_nothing; set = refl }; inputs =
-    refl; outputs = refl },
+    record {
+      core = record { blank = blank; loaded = blank; all_zero = blank_is; has_image = loads_nothing; set = refl };
+      inputs =
+          refl;
+      outputs = refl;
+    },
   );
   setting = one_more;
   counter = with_counter;

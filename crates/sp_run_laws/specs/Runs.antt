@@ -99,13 +99,13 @@ outputs = codes "out 05 3E" ++ 10 ∷ codes "out F0 07" ++ 10 ∷ []
 abbrev pub registers : List ℕ
 registers = codes "A=A7 B=11 C=22 D=33 E=44 H=55 L=66 S=1 Z=0 AC=1 P=0 CY=1 SP=23FE PC=0000 steps="
 
+-- the line of the state, after so many steps
+abbrev pub last_line : ℕ → List ℕ → List ℕ
+last_line steps ending = registers ++ decimal steps ++ codes " " ++ ending ++ 10 ∷ []
+
 -- the text of a run: its outputs in order, and the last state with the count of its steps and how it ended
 pub record HasTexts : Type 0 where
-  pub halted : run_text 30 12 (state (core_with true (8 ∷ []))) ≡ outputs ++ registers ++ decimal 12 ++ codes " " ++ codes "halted" ++ 10
-      ∷ []
-  pub stuck : run_text 30 12 (state (core_with false (8 ∷ []))) ≡ outputs ++ registers ++ decimal 12 ++ codes " " ++ codes "stuck 08" ++ 10
-      ∷ []
-  pub running : run_text 30 30 (state (core_with false (8 ∷ []))) ≡ outputs ++ registers ++ decimal 30 ++ codes " " ++ codes "running" ++ 10
-      ∷ []
-  pub without : run_text 30 0 (record { core = core_with true []; inputs = []; outputs = [] }) ≡ registers ++ decimal 0 ++ codes " "
-      ++ codes "halted" ++ 10 ∷ []
+  pub halted : run_text 30 12 (state (core_with true (8 ∷ []))) ≡ outputs ++ last_line 12 (codes "halted")
+  pub stuck : run_text 30 12 (state (core_with false (8 ∷ []))) ≡ outputs ++ last_line 12 (codes "stuck 08")
+  pub running : run_text 30 30 (state (core_with false (8 ∷ []))) ≡ outputs ++ last_line 30 (codes "running")
+  pub without : run_text 30 0 (record { core = core_with true []; inputs = []; outputs = [] }) ≡ last_line 0 (codes "halted")
