@@ -2,6 +2,7 @@ pub mod Answers
 pub mod Control
 pub mod Cycles
 pub mod Graph
+pub mod Least
 pub mod Routines
 pub mod Successors
 pub mod Walks

@@ -19,7 +19,7 @@ mod walk;
 pub use control::{Control, accesses, control_of};
 pub use counting::{count, count_all};
 pub use edges::successors;
-pub use graph::{Branch, End, Node, branch_at, has_assertion};
+pub use graph::{Branch, End, Node, access_at, branch_at, has_assertion, way_at};
 pub use list::Walks;
 pub use nodes::graph_of;
 pub use places::{next_of, place_of, routine_at};

@@ -1,0 +1,3 @@
+pub mod BreadthLemmas
+pub mod LeastLemmas
+pub mod OrderLemmas

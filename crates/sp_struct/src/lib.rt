@@ -1,0 +1,9 @@
+//! The structure of routines: where control goes, which instructions are reached and at which depth of stack, which
+//! loops are cut by assertions, and who calls whom (this project's own).
+#![tactic(auto)]
+
+mod breadth;
+mod cycles;
+
+pub use breadth::{Reached, least_walks};
+pub use cycles::uncut;
