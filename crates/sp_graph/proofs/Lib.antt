@@ -7,6 +7,7 @@ pub mod NextLemmas
 pub mod NodeLemmas
 pub mod OrderLemmas
 pub mod PlaceLemmas
+pub mod PlacesLemmas
 pub mod SearchLemmas
 pub mod SortLemmas
 pub mod WalkLemmas

@@ -1,6 +1,7 @@
 pub mod Answers
 pub mod Control
 pub mod Cycles
+pub mod Depths
 pub mod Graph
 pub mod Least
 pub mod Routines

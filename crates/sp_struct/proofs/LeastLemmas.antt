@@ -13,7 +13,7 @@ chain order up zero k = []
 chain order up (suc fuel) zero = []
 chain order up (suc fuel) (suc k) = chain order up fuel (get_or up (suc k) 0) ++ get_or order (get_or up (suc k) 0) 0 ∷ []
 
-chain_entry : (order up : List ℕ) (fuel : ℕ) → chain order up fuel 0 ≡ []
+pub chain_entry : (order up : List ℕ) (fuel : ℕ) → chain order up fuel 0 ≡ []
 unfolding chain
 chain_entry order up zero = refl
 chain_entry order up (suc fuel) = refl
@@ -35,6 +35,15 @@ module _ (graph : List Node) (seen : List Bool) (order up : List ℕ) (head : �
   stable (suc f) (suc h) (suc k) l a b =
       let p : get_or up (suc k) 0 < suc k = (g.parent (suc k) (omega arith) l).0 in
       ap (λ c. c ++ get_or order (get_or up (suc k) 0) 0 ∷ []) (stable f h (get_or up (suc k) 0) (omega arith) (omega arith) (omega arith))
+
+  pub chain_short : (f k : ℕ) → k < length order → k ≤ f → length (chain order up f k) ≤ k
+  unfolding chain
+  chain_short zero k l a = omega arith
+  chain_short (suc f) zero l a = omega arith
+  chain_short (suc f) (suc k) l a =
+      let p : get_or up (suc k) 0 < suc k = (g.parent (suc k) (omega arith) l).0 in
+      let rest = chain_short f (get_or up (suc k) 0) (omega arith) (omega arith) in
+      omega (arith, rest, length-append (chain order up f (get_or up (suc k) 0)) (get_or order (get_or up (suc k) 0) 0 ∷ []))
 
   walk : (f k : ℕ) → k < length order → k ≤ f → WalkTo graph (chain order up f k) (get_or order k 0)
   unfolding chain
@@ -70,7 +79,7 @@ module _ (graph : List Node) (seen : List Bool) (order up : List ℕ) (head : �
       ]
 
   -- the walk to a place of the order by the one that first saw it
-  chain_up : (f k : ℕ) → 0 < k → k < length order → k ≤ f →
+  pub chain_up : (f k : ℕ) → 0 < k → k < length order → k ≤ f →
       chain order up f k ≡ chain order up f (get_or up k 0) ++ get_or order (get_or up k 0) 0 ∷ []
   unfolding chain
   chain_up f zero l m a = absurd (omega arith)

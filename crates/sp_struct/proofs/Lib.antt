@@ -1,3 +1,4 @@
 pub mod BreadthLemmas
+pub mod DepthLemmas
 pub mod LeastLemmas
 pub mod OrderLemmas

@@ -4,6 +4,8 @@
 
 mod breadth;
 mod cycles;
+mod stack;
 
 pub use breadth::{Reached, least_walks};
 pub use cycles::uncut;
+pub use stack::{Levels, effect, find_levels};
