@@ -1,5 +1,6 @@
 pub mod AloneLemmas
 pub mod CallLemmas
+pub mod ClosedLemmas
 pub mod EntryLemmas
 pub mod FarLemmas
 pub mod FlowLemmas

@@ -10,14 +10,14 @@ use Rattle.sp_examples.specs.Notes.{HasOverlap, StandForValues}
 along : (P : ℤ → Type 0) (x y : ℤ) → x ≡ y → P x ↔ P y
 along P x y e = (subst P e, subst P (sym e))
 
-connects_left : (c : Connective) (P Q R : Type 0) → (P → Q) → (Q → P) → Connects c P R → Connects c Q R
+pub connects_left : (c : Connective) (P Q R : Type 0) → (P → Q) → (Q → P) → Connects c P R → Connects c Q R
 connects_left And P Q R f g h = (f h.0, h.1)
 connects_left Or P Q R f g (inl h) = inl (f h)
 connects_left Or P Q R f g (inr h) = inr h
 connects_left Implies P Q R f g h = λ q. h (g q)
 connects_left Iff P Q R f g h = (λ q. h.0 (g q), λ r. f (h.1 r))
 
-connects_right : (c : Connective) (P Q R : Type 0) → (P → Q) → (Q → P) → Connects c R P → Connects c R Q
+pub connects_right : (c : Connective) (P Q R : Type 0) → (P → Q) → (Q → P) → Connects c R P → Connects c R Q
 connects_right And P Q R f g h = (h.0, f h.1)
 connects_right Or P Q R f g (inl h) = inl h
 connects_right Or P Q R f g (inr h) = inr (f h)

@@ -91,3 +91,8 @@ pub record HasOverlap : Type 0 where
   pub both : (f : Frame) (entry now : Core) → value f [] (Operate BitAnd (Literal 12) (Literal 10)) entry now ≡ pos 8
   pub either : (f : Frame) (entry now : Core) → value f [] (Operate BitOr (Literal 12) (Literal 10)) entry now ≡ pos 14
   pub one : (f : Frame) (entry now : Core) → value f [] (Operate BitXor (Literal 12) (Literal 10)) entry now ≡ pos 6
+
+-- a closed note says the same whatever names stand for
+abbrev pub NeedNoNames : Type 0
+NeedNoNames =
+    (f : Frame) (b c : Bindings) (entry now : Core) (p : Note) → IsClosed p → HoldsWith f b p entry now ↔ HoldsWith f c p entry now

@@ -13,7 +13,7 @@ ghost use Rattle.sp_model.specs.Note.{Note};
 ghost use Rattle.sp_model.specs.State.{State, IsState, next_instr, run, step};
 ghost use Rattle.sp_model.specs.Unit.{Area, Routine, Unit};
 ghost use Rattle.sp_examples.specs.Images.{one_byte};
-ghost use Rattle.sp_examples.specs.Notes.{BindsEverywhere, HasOverlap, StandForValues};
+ghost use Rattle.sp_examples.specs.Notes.{BindsEverywhere, HasOverlap, NeedNoNames, StandForValues};
 ghost use Rattle.sp_examples.specs.States.{elsewhere, end_cells, left, ready, stopped, with_a, with_input, with_output, with_sp, with_z};
 ghost use Rattle.sp_examples.specs.Units.{IsEntryOf, IsFree, IsGoodOf, MayLeave, ReturnsAt, RunIsGood, a_is, alone, begin, bytes_of, caller, calling, entered, far, finish, given, guard, hop, hopping, landing, line, load, only, push, pushed_word, run_on, send, store, take, watch, write};
 
@@ -241,4 +241,9 @@ pub fn notes_tell_bits_apart()
 /// An image is in memory where its addresses are below 65,536 and its bytes below 256.
 pub fn images_lie_in_memory()
     ensures { (a byte : ℕ) → IsInMemory (one_byte a byte) ↔ ((a < 65536) × (byte < 256)) }
+{}
+
+/// What a closed note says depends on no number of a name from outside.
+pub fn closed_notes_stand_alone()
+    ensures { NeedNoNames }
 {}
