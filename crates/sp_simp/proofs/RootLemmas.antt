@@ -1,5 +1,6 @@
 -- What a tree is, of which the root is known.
 use Rattle.std.proofs.Common.{◌≤◌, arith, ◌≡◌, refl, sym, ◌∙◌, ap, subst, Option, Some, None, option_map, ℤ, Bool, true, false}
+use Rattle.std.specs.Prelude.{◌↔◌}
 use Rattle.std.specs.Ordering.{int_eq}
 use Rattle.std.proofs.lemmas.Bool.Decides.{Decides-int_eq, same_from_decides}
 use Rattle.sp_term.specs.Tree.{Tree, nodes, Literal, Truth, Add, Multiply, Divide, Remainder}
@@ -101,3 +102,12 @@ based_nodes t None None h g = omega arith
 
 pub base_nodes : (t : Tree) → nodes (base t).0 ≤ nodes t
 base_nodes t = based_nodes t (offset t) (literal t) refl refl
+
+pub same_tree : (t : Tree) → tree_eq t t ≡ true
+same_tree t = tree_same t t refl
+
+pub ruleset equal = (literal_is, literal_not, tree_flip, same_tree)
+
+-- a test that passes exactly where two trees are one
+pub same_test : (b : Bool) (x y : Tree) → (b ≡ true) ↔ (x ≡ y) → b ≡ tree_eq x y
+same_test b x y h = same_from_decides {P = x ≡ y} b (tree_eq x y) (h.0, h.1) (tree_one x y, tree_same x y)

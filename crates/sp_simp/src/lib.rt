@@ -3,6 +3,9 @@
 
 mod laws;
 mod relation;
+mod roots;
+mod step;
+mod sums;
 
 pub use laws::{
     a_tree_has_one_simple_form, admissible_environments_are_in_ranges, conditions_keep_their_truth,
