@@ -1,3 +1,4 @@
+pub mod BitLemmas
 pub mod ConditionLemmas
 pub mod IntervalLemmas
 pub mod NodeLemmas

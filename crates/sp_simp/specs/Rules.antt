@@ -352,6 +352,11 @@ compare_offsets r sum a b = when (sum && tree_eq a.0 b.0) (Made (compared r (Lit
 abbrev pub compare_bases : Relation → Bool → Tree × ℤ → Tree × ℤ → Option Right
 compare_bases r sum a b = when (sum && int_eq a.1 b.1 && not (int_eq a.1 (pos 0))) (Made (compared r a.0 b.0))
 
+abbrev pub compare_based : Relation → Tree → Tree → Option Right
+compare_based r x y =
+    first (compare_offsets r (is_sum (offset x) || is_sum (offset y)) (base x) (base y))
+    (compare_bases r (is_sum (offset x) || is_sum (offset y)) (base x) (base y))
+
 -- 35: c = x is x = c, where x isn't a literal
 abbrev pub equal_turned : Option ℤ → Tree → Option ℤ → Option Right
 equal_turned (Some c) x None = Some (Made (Equal x (Literal c)))
@@ -377,10 +382,14 @@ negated (LessOrEqual x y) = Some (Made (Less y x))
 negated (Less x y) = Some (Made (LessOrEqual y x))
 negated _ = None
 
+-- a formula beside one that is known
+abbrev pub with_known : Bool → Bool → Tree → Option Right
+with_known unit b p = Some (Is (if b then (if unit then p else Truth true) else (if unit then Truth false else p)))
+
 -- 38: a side that is true goes from an and, one that is false is all of it, and p and p is p; an or with true and false exchanged
 abbrev pub joined : Bool → Tree → Option Bool → Tree → Option Bool → Bool → Option Right
-joined unit p (Some b) q d same = Some (Is (if b then (if unit then q else Truth true) else (if unit then Truth false else q)))
-joined unit p None q (Some b) same = Some (Is (if b then (if unit then p else Truth true) else (if unit then Truth false else p)))
+joined unit p (Some b) q d same = with_known unit b q
+joined unit p None q (Some b) same = with_known unit b p
 joined unit p None q None same = when same (Is p)
 
 -- 39: p -> q is q where p is true, true where p is false, where q is true and where both are the same, and not p where q is false
@@ -483,8 +492,7 @@ unfoldable pub comparison_rule : Relation → Tree → Tree → Option Right
 comparison_rule r x y =
     first (compare_same r (tree_eq x y)) (first (compare_intervals r (interval x) (interval y))
     (first (compare_left_offset r (offset x) (literal y)) (first (compare_right_offset r (literal x) (offset y))
-    (first (compare_offsets r (is_sum (offset x) || is_sum (offset y)) (base x) (base y))
-    (compare_bases r (is_sum (offset x) || is_sum (offset y)) (base x) (base y))))))
+    (compare_based r x y))))
 
 unfoldable pub equality_rule : Tree → Tree → Option Right
 equality_rule x y =

@@ -1,7 +1,14 @@
 //! The simplifier of terms and conditions (this project's own).
 #![tactic(auto)]
 
+mod bytes;
+mod cells;
+mod comparisons;
+mod formulas;
 mod laws;
+mod next;
+mod products;
+mod quotients;
 mod relation;
 mod roots;
 mod step;

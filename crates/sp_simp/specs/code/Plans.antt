@@ -60,10 +60,6 @@ pub record IsPlan (ts : List Tree) (s : Step) (rule : Option Right) : Type 0 whe
   pub plans : plan ts s ≡ rule
   pub within : IsStepWithin (length ts) s
 
--- a number, where it is within 64 bits
-abbrev pub fitting : ℤ → Option ℤ
-fitting n = if fits n then Some n else None
-
 abbrev pub offset_at : List Tree → Option (Node × ℤ) → Option (Tree × ℤ)
 offset_at ts = option_map (λ p. (tree_at ts p.0.0, p.1))
 
