@@ -1,8 +1,10 @@
 pub mod BitLemmas
 pub mod ConditionLemmas
 pub mod IntervalLemmas
+pub mod LeadLemmas
 pub mod NodeLemmas
 pub mod OneLemmas
+pub mod PartLemmas
 pub mod ProductLemmas
 pub mod RemainderLemmas
 pub mod RootLemmas

@@ -10,6 +10,7 @@ mod next;
 mod products;
 mod quotients;
 mod relation;
+mod root;
 mod roots;
 mod step;
 mod sums;
