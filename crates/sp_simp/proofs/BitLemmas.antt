@@ -1,5 +1,5 @@
 -- Shifts of numbers of 64 bits are quotients by powers of 2.
-use Rattle.std.proofs.Common.{ℕ, zero, suc, ◌+◌, ◌*◌, ◌^◌, ◌/◌, ◌≤◌, ◌<◌, ◌≡◌, refl, sym, ◌∙◌, ap, arith, min, ℤ, pos, negsuc}
+use Rattle.std.proofs.Common.{ℕ, zero, suc, ◌^◌, ◌/◌, ◌<◌, ◌≡◌, refl, sym, ◌∙◌, ap, arith, min, ℤ, pos, negsuc}
 use Rattle.std.specs.Int.Signed.{shr_z, mag}
 use Rattle.std.proofs.Math.Nat.{div-eq_of_lt}
 use Rattle.std.proofs.lemmas.Nat.{pow_pos, pow_below}
@@ -15,10 +15,10 @@ divided (negsuc a) (suc n) h = refl
 few : (a k : ℕ) → a < 2 ^ 63 → a / 2 ^ k ≡ a / 2 ^ min k 63
 few a k h = by_lt_z (pos 63) (pos k)
     (λ l.
-      let more : 63 < k = omega (arith, ints, l) in
-      let least : min k 63 ≡ 63 = omega arith in
-      let high : a < 2 ^ k = omega (arith, h, pow_below 63 k more) in
-      div-eq_of_lt high ∙ sym (ap (λ n. a / 2 ^ n) least ∙ div-eq_of_lt h))
+    let more : 63 < k = omega (arith, ints, l) in
+    let least : min k 63 ≡ 63 = omega arith in
+    let high : a < 2 ^ k = omega (arith, h, pow_below 63 k more) in
+    div-eq_of_lt high ∙ sym (ap (λ n. a / 2 ^ n) least ∙ div-eq_of_lt h))
     (λ l. let least : min k 63 ≡ k = omega (arith, ints, l) in ap (λ n. a / 2 ^ n) (sym least))
 
 shift_few : (x : ℤ) (k : ℕ) → mag x < 2 ^ 63 → shr_z x (2 ^ k) ≡ shr_z x (2 ^ min k 63)

@@ -1,10 +1,8 @@
 -- What the rules lead to, from what they lead to from the nodes that a rule writes.
-use Rattle.std.proofs.Common.{ℕ, ◌<◌, ◌≡◌, refl, sym, ◌∙◌, ap, subst, List, Some, None, ℤ}
+use Rattle.std.proofs.Common.{◌≡◌, Some, None, ℤ}
 use Rattle.sp_term.specs.Tree.{Tree, Literal, Add, Remainder}
-use Rattle.sp_term.specs.Pools.{tree_at, Grows}
-use Rattle.sp_simp.specs.Rules.{Right, Is, Made, MadePlus, MadeModulo, rule}
+use Rattle.sp_simp.specs.Rules.{Is, Made, MadePlus, MadeModulo, rule}
 use Rattle.sp_simp.specs.Simple.{Leads, stays, is, made, made_plus, made_modulo}
-use Rattle.sp_simp.specs.code.Weight.{weight}
 use Rattle.sp_simp.proofs.WeightLemmas.{made_falls, plus_falls, modulo_falls, plus_then_falls, modulo_then_falls}
 
 pub stay : (t : Tree) → rule t ≡ None → Leads t t

@@ -2,6 +2,7 @@ pub mod BitLemmas
 pub mod ConditionLemmas
 pub mod IntervalLemmas
 pub mod LeadLemmas
+pub mod MemoLemmas
 pub mod NodeLemmas
 pub mod OneLemmas
 pub mod PartLemmas

@@ -1,7 +1,7 @@
 -- A part in a pool that grows.
-use Rattle.std.proofs.Common.{ℕ, ◌<◌, ◌≤◌, ◌≡◌, refl, arith, List, length}
+use Rattle.std.proofs.Common.{◌≡◌, refl, arith, List, length}
 use Rattle.sp_term.specs.Tree.{Tree}
-use Rattle.sp_term.specs.Pools.{tree_at, Grows}
+use Rattle.sp_term.specs.Pools.{Grows}
 use Rattle.sp_simp.specs.declared.step.Part.{Part}
 use Rattle.sp_simp.specs.declared.step.Part.TheVariants as part
 use Rattle.sp_simp.specs.code.Plans.{part_tree, IsPartWithin}

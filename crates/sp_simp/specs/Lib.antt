@@ -1,3 +1,4 @@
+pub mod Memos
 pub mod Ranges
 pub mod Rules
 pub mod Same

@@ -235,7 +235,11 @@ pub fn bit_step(pool: &Pool, k: u8, x: Node) -> Step
     requires { x.0 < length pool.now }
     ensures { IsPlan pool.now result (spec.bit_rule k (tree_at pool.now x.0)) }
 {
-    first(pool, fold_bit(pool, k, pool.literal(x)), flag_bit(pool, k, x))
+    first(
+        pool,
+        fold_bit(pool, k, pool.literal(x)),
+        flag_bit(pool, k, x),
+    )
 }
 
 /// The flags as a byte.

@@ -159,5 +159,9 @@ pub fn total_step(pool: &Pool, m: Node, x: Node, y: Node) -> Step
     ensures { IsPlan pool.now result (spec.total_rule (tree_at pool.now m.0) (tree_at pool.now x.0) (tree_at pool.now y.0)) }
 {
     let step = total_of_one(pool, same(pool, x, y), m, x);
-    first(pool, empty_total(pool, pool.literal(x), pool.literal(y)), step)
+    first(
+        pool,
+        empty_total(pool, pool.literal(x), pool.literal(y)),
+        step,
+    )
 }

@@ -89,7 +89,13 @@ fn compare_right_offset(pool: &Pool, r: Relation, d: Option<i64>, y: Option<(Nod
 }
 
 // 34
-fn compare_offsets(pool: &Pool, r: Relation, sum: bool, a: (Option<Node>, i64), b: (Option<Node>, i64)) -> Step
+fn compare_offsets(
+    pool: &Pool,
+    r: Relation,
+    sum: bool,
+    a: (Option<Node>, i64),
+    b: (Option<Node>, i64),
+) -> Step
     requires a { IfSome a.0 (λ n. n.0 < length pool.now) }
     requires b { IfSome b.0 (λ n. n.0 < length pool.now) }
     ensures { IsPlan pool.now result (spec.compare_offsets r sum (base_tree pool.now a.0, a.1) (base_tree pool.now b.0, b.1)) }
@@ -114,7 +120,13 @@ fn base_part(pool: &Pool, x: Option<Node>) -> Part
 }
 
 // 34
-fn compare_bases(pool: &Pool, r: Relation, sum: bool, a: (Option<Node>, i64), b: (Option<Node>, i64)) -> Step
+fn compare_bases(
+    pool: &Pool,
+    r: Relation,
+    sum: bool,
+    a: (Option<Node>, i64),
+    b: (Option<Node>, i64),
+) -> Step
     requires a { IfSome a.0 (λ n. n.0 < length pool.now) }
     requires b { IfSome b.0 (λ n. n.0 < length pool.now) }
     ensures { IsPlan pool.now result (spec.compare_bases r sum (base_tree pool.now a.0, a.1) (base_tree pool.now b.0, b.1)) }
@@ -147,7 +159,11 @@ fn compare_based(pool: &Pool, r: Relation, x: Node, y: Node) -> Step
     let sum = is_sum(pool, x, y);
     let a = base(pool, x);
     let b = base(pool, y);
-    first(pool, compare_offsets(pool, r, sum, a, b), compare_bases(pool, r, sum, a, b))
+    first(
+        pool,
+        compare_offsets(pool, r, sum, a, b),
+        compare_bases(pool, r, sum, a, b),
+    )
 }
 
 /// The rules at a comparison, the last one first.
@@ -158,9 +174,21 @@ pub fn comparison_step(pool: &Pool, r: Relation, x: Node, y: Node) -> Step
     ensures { IsPlan pool.now result (spec.comparison_rule r (tree_at pool.now x.0) (tree_at pool.now y.0)) }
 {
     let step = compare_based(pool, r, x, y);
-    let step = first(pool, compare_right_offset(pool, r, pool.literal(x), offset(pool, y)), step);
-    let step = first(pool, compare_left_offset(pool, r, offset(pool, x), pool.literal(y)), step);
-    let step = first(pool, compare_intervals(pool, r, pool.span(x), pool.span(y)), step);
+    let step = first(
+        pool,
+        compare_right_offset(pool, r, pool.literal(x), offset(pool, y)),
+        step,
+    );
+    let step = first(
+        pool,
+        compare_left_offset(pool, r, offset(pool, x), pool.literal(y)),
+        step,
+    );
+    let step = first(
+        pool,
+        compare_intervals(pool, r, pool.span(x), pool.span(y)),
+        step,
+    );
     first(pool, compare_same(pool, r, same(pool, x, y)), step)
 }
 
@@ -216,6 +244,10 @@ pub fn equality_step(pool: &Pool, x: Node, y: Node) -> Step
     ensures { IsPlan pool.now result (spec.equality_rule (tree_at pool.now x.0) (tree_at pool.now y.0)) }
 {
     let step = equal_choice(pool, x, pool.literal(y));
-    let step = first(pool, equal_turned(pool, pool.literal(x), y, pool.literal(y)), step);
+    let step = first(
+        pool,
+        equal_turned(pool, pool.literal(x), y, pool.literal(y)),
+        step,
+    );
     first(pool, comparison_step(pool, Relation::Equal, x, y), step)
 }

@@ -5,9 +5,8 @@ ghost use Rattle.sp_term.specs.Pools.{shape_tree, IsBelow};
 ghost use Rattle.sp_simp.specs.Rules as spec;
 ghost use Rattle.sp_simp.specs.code.Plans.{IsPlan};
 
-use crate::Relation;
 use crate::step::Step;
-use crate::{bytes, cells, comparisons, formulas, products, quotients, sums};
+use crate::{Relation, bytes, cells, comparisons, formulas, products, quotients, sums};
 use sp_term::{Pool, Shape};
 
 /// What the rules write in the place of a node whose parts stand in the pool.

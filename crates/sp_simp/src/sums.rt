@@ -188,6 +188,10 @@ pub fn difference_step(pool: &Pool, x: Node, y: Node) -> Step
 {
     let c = pool.literal(x);
     let d = pool.literal(y);
-    let step = first(pool, same_difference(pool, same(pool, x, y)), minus_literal(pool, x, d));
+    let step = first(
+        pool,
+        same_difference(pool, same(pool, x, y)),
+        minus_literal(pool, x, d),
+    );
     first(pool, fold_difference(pool, c, d), step)
 }

@@ -1,12 +1,11 @@
 -- The right side that a step of the code stands for.
-use Rattle.std.specs.Prelude.{ℕ, ◌<◌, ◌≡◌, ⊤, List, length, Option, Some, None, option_map, ℤ, pos, if◌then◌else◌}
+use Rattle.std.specs.Prelude.{ℕ, ◌<◌, ◌≡◌, ⊤, List, length, Option, Some, None, option_map, ℤ, pos}
 use Rattle.sp_term.specs.Tree.{Tree, Literal, Truth, Add, Multiply, Remainder, Element, Update, Not}
-use Rattle.sp_term.specs.Intervals.{fits}
 use Rattle.sp_term.specs.Pools.{tree_at, shape_tree, IsBelow}
 use Rattle.sp_term.specs.declared.shape.Node.{Node}
 use Rattle.sp_term.specs.declared.shape.Shape.{Shape}
 use Rattle.sp_simp.specs.Rules.{Right, Is, Made, MadePlus, MadeModulo, compared}
-use Rattle.sp_simp.specs.Simple.{Leads, IsSimpleForm}
+use Rattle.sp_simp.specs.Simple.{Leads}
 use Rattle.sp_simp.specs.declared.step.Part.{Part}
 use Rattle.sp_simp.specs.declared.step.Part.TheVariants as part
 use Rattle.sp_simp.specs.declared.step.Draft.{Draft}
@@ -82,11 +81,6 @@ base_tree ts None = Literal (pos 0)
 pub record IsLedAt (t : Tree) (ts : List Tree) (n : ℕ) : Type 0 where
   pub within : n < length ts
   pub form : Leads t (tree_at ts n)
-
--- the simple form of t stands at the place n
-pub record IsSimpleAt (t : Tree) (ts : List Tree) (n : ℕ) : Type 0 where
-  pub within : n < length ts
-  pub form : IsSimpleForm t (tree_at ts n)
 
 -- a node over places of the list is the tree t
 pub record IsDrawnAt (t : Tree) (ts : List Tree) (s : Shape) : Type 0 where
