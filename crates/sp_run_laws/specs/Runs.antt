@@ -57,7 +57,7 @@ pub record SetsItsValue : Type 0 where
   pub input : (byte : ℕ) (core : Core) → with_setting (setting.Input byte) core ≡ core
   pub inputs : inputs_of (setting.Input 5 ∷ setting.Cell 6 7 ∷ setting.Input 8 ∷ []) ≡ 5 ∷ 8 ∷ []
 
--- a core at 0 with these bytes
+-- a core at 0 with these bytes, in which each register and flag has another number, so that no text is that of another
 abbrev pub core_with : Bool → List ℕ → Core
 core_with halted cells = record {
   b = 0x11;
@@ -68,10 +68,10 @@ core_with halted cells = record {
   l = 0x66;
   a = 0xA7;
   s = 1;
-  z = 0;
-  ac = 1;
-  p = 0;
-  cy = 1;
+  z = 2;
+  ac = 3;
+  p = 4;
+  cy = 5;
   sp = 0x23FE;
   pc = 0;
   halted = halted;
@@ -97,7 +97,7 @@ abbrev pub outputs : List ℕ
 outputs = codes "out 05 3E" ++ 10 ∷ codes "out F0 07" ++ 10 ∷ []
 
 abbrev pub registers : List ℕ
-registers = codes "A=A7 B=11 C=22 D=33 E=44 H=55 L=66 S=1 Z=0 AC=1 P=0 CY=1 SP=23FE PC=0000 steps="
+registers = codes "A=A7 B=11 C=22 D=33 E=44 H=55 L=66 S=1 Z=2 AC=3 P=4 CY=5 SP=23FE PC=0000 steps="
 
 -- the line of the state, after so many steps
 abbrev pub last_line : ℕ → List ℕ → List ℕ
