@@ -2,6 +2,7 @@ pub mod CountLemmas
 pub mod CutLemmas
 pub mod CycleLemmas
 pub mod LayoutLemmas
+pub mod LongLemmas
 pub mod MoveLemmas
 pub mod NextLemmas
 pub mod NodeLemmas

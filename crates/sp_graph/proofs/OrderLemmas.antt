@@ -53,11 +53,6 @@ cut_option : (graph : List Node) (at : ℕ) (o : Option Node) → slice_get grap
 cut_option graph at None e a = cc
 cut_option graph at (Some node) e a = slice_get_within graph at node e
 
--- from no cut point is a walk long
-pub no_walk_is_long :
-    (graph : List Node) (order : List ℕ) → SuccessorsFirst graph (length graph) order → InGraph graph → 0 < length graph →
-    (from : Option ℕ) → IsCut graph from → NoLongWalk graph from
-no_walk_is_long graph order sorted whole some None cut = no_long_walk graph order sorted None whole some (λ at e. cc)
-no_walk_is_long graph order sorted whole some (Some place) cut =
-    no_long_walk graph order sorted (Some place) whole some
-    (λ at e. let same : place ≡ at = cc in rw (← same) (cut_option graph place (slice_get graph place) refl cut))
+-- an instruction with an assertion is one of the graph
+pub asserted_within : (graph : List Node) (at : ℕ) → asserted_in (slice_get graph at) ≡ true → at < length graph
+asserted_within graph at a = cut_option graph at (slice_get graph at) refl a

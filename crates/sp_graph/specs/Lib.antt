@@ -3,6 +3,7 @@ pub mod Control
 pub mod Cycles
 pub mod Depths
 pub mod Graph
+pub mod Laws
 pub mod Least
 pub mod Routines
 pub mod Successors

@@ -7,6 +7,8 @@ use Rattle.sp_graph.specs.declared.graph.Branch.{Branch}
 use Rattle.sp_graph.specs.declared.graph.End.{End}
 use Rattle.sp_graph.specs.declared.graph.End.TheVariants.{Assert}
 use Rattle.sp_graph.specs.declared.graph.Node.{Node}
+use Rattle.sp_graph.specs.declared.walk.Cut.{Cut}
+use Rattle.sp_graph.specs.declared.walk.Cut.TheVariants.{Entry, At}
 use Rattle.sp_graph.specs.declared.walk.Step.{Step}
 use Rattle.sp_graph.specs.declared.walk.Walk.{Walk}
 
@@ -86,6 +88,11 @@ assertions_from graph first = filter (λ at. asserted_in (slice_get graph at)) (
 -- The cut points of a routine: its entry, and then each instruction with an assertion by rising address.
 abbrev pub cuts : List Node → List (Option ℕ)
 cuts graph = None ∷ map (λ at. Some at) (assertions_from graph 0)
+
+-- a cut point as it is told
+abbrev pub cut_of : Option ℕ → Cut
+cut_of None = Entry
+cut_of (Some at) = At at
 
 -- a walk may start there: at the entry, or at an instruction with an assertion
 abbrev pub IsCut : List Node → Option ℕ → Type 0

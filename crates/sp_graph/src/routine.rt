@@ -1,15 +1,16 @@
-ghost use Rattle.std.specs.Prelude.{◌≡◌, ◌<◌, ◌≤◌, ℕ, Option, IfOk, length};
-ghost use Rattle.sp_graph.specs.Answers.{GivesWalks, most_walks};
+ghost use Rattle.std.specs.Prelude.{◌≡◌, ◌<◌, IfOk, length, map};
+ghost use Rattle.sp_graph.specs.Answers.{GivesWalks};
 ghost use Rattle.sp_graph.specs.Cycles.{HasNoCycle, SuccessorsFirst};
 ghost use Rattle.sp_graph.specs.Graph.{InGraph};
 ghost use Rattle.sp_graph.specs.Routines.{graph_of};
-ghost use Rattle.sp_graph.specs.Walks.{walks, IsCut, NoLongWalk};
+ghost use Rattle.sp_graph.specs.Walks.{walks, cuts, cut_of};
 
 use crate::counting::{count, count_all};
 use crate::list::Walks;
 use crate::nodes::graph_of;
 use crate::sorting::{Outcome, sort};
-use crate::{Node, Search, WalksRefusal};
+use crate::graph::has_assertion;
+use crate::{Cut, Node, Search, WalksRefusal};
 use sp_base::Memory;
 use sp_prog::Unit;
 use std::alloc::Global;
@@ -54,4 +55,20 @@ pub fn walks<'u>(alloc: Global, unit: &'u Unit, routine: usize) -> Result<Walks<
     let graph = graph_of(alloc, unit, routine)?;
     let search = walks_in(alloc, graph)?;
     Ok(Walks { unit, search })
+}
+
+/// The cut points of a routine: its entry, then each instruction with an assertion by rising address.
+pub fn cuts(alloc: Global, unit: &Unit, routine: usize) -> Result<Vec<Cut>, Memory>
+    requires { routine < length unit.now.routines }
+    ensures { IfOk result (λ found. found.items ≡ map cut_of (cuts (graph_of unit.now routine))) }
+{
+    let graph = graph_of(alloc, unit, routine)?;
+    let mut found = Vec::new(alloc);
+    found.push(Cut::Entry)?;
+    'places: for at in 0..graph.len() {
+        if has_assertion(&graph, at) {
+            found.push(Cut::At(at))?;
+        }
+    }
+    Ok(found)
 }
