@@ -1,3 +1,4 @@
+pub mod BeforeLemmas
 pub mod CountLemmas
 pub mod CutLemmas
 pub mod CycleLemmas

@@ -1,11 +1,10 @@
 -- Where no cycle is without an assertion, no walk has as many steps as the graph has instructions.
-use Rattle.std.proofs.Common.{◌≡◌, ◌<◌, ◌≤◌, ◌+◌, ℕ, suc, ◌⊎◌, inl, inr, arith, Bool, true, false, List, [], ◌∷◌, ◌++◌, Option, None, Some, slice_get, length, length-append, get_or, map, refl, sym, ap, ◌∙◌}
+use Rattle.std.proofs.Common.{◌≡◌, ◌<◌, ◌+◌, ℕ, ◌⊎◌, inl, inr, arith, List, [], ◌∷◌, ◌++◌, Option, None, Some, length, length-append, get_or, map, refl, sym, ap}
 use Rattle.std.proofs.lemmas.Bool.{cases_order}
 use Rattle.std.proofs.lemmas.List.{get_or_append_left, get_or_push, length-map, map-append}
-use Rattle.std.proofs.lemmas.Option.{slice_get_within}
 use Rattle.sp_graph.specs.Cycles.{Edge, Reaches, HasNoCycle}
 use Rattle.sp_graph.specs.Cycles.Reaches.{one, more}
-use Rattle.sp_graph.specs.Graph.{InGraph, asserted_in, branch_in, way}
+use Rattle.sp_graph.specs.Graph.{InGraph}
 use Rattle.sp_graph.specs.Walks.{Inside, IsCut, NoLongWalk}
 use Rattle.sp_graph.specs.Walks.Inside.{entry, assertion, onward}
 use Rattle.sp_graph.specs.declared.graph.Node.{Node}
@@ -71,6 +70,6 @@ module _ (graph : List Node) (from : Option ℕ) (whole : InGraph graph) (some :
   pub no_walk_is_long : HasNoCycle graph → NoLongWalk graph from
   no_walk_is_long none steps at i =
       let few = distinct_are_few (places steps at) (length graph)
-          (λ j k jk l e. none (get_or (places steps at) k 0) (rw e at (reaches steps at i j k jk l)))
-          (all_within steps at i) in
+      (λ j k jk l e. none (get_or (places steps at) k 0) (rw e at (reaches steps at i j k jk l)))
+      (all_within steps at i) in
       omega (arith, few, length-append (passed steps) (at ∷ []), length-map steps (λ (s : Step). s.at))

@@ -3,7 +3,7 @@ use Rattle.std.proofs.Common.{◌≡◌, ◌<◌, ℕ, ◌+◌, Bool, true, List
 use Rattle.std.proofs.lemmas.Bool.{cases_order}
 use Rattle.std.proofs.lemmas.Option.{slice_get_within}
 use Rattle.sp_graph.specs.Graph.{InGraph, asserted_in, branch_in, way}
-use Rattle.sp_graph.specs.Walks.{Inside, IsCut, NoLongWalk}
+use Rattle.sp_graph.specs.Walks.{Inside, NoLongWalk}
 use Rattle.sp_graph.specs.Walks.Inside.{entry, assertion, onward}
 use Rattle.sp_graph.specs.Cycles.{SuccessorsFirst, Leads}
 use Rattle.sp_graph.specs.declared.graph.Node.{Node}

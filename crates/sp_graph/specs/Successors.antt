@@ -1,6 +1,6 @@
 -- Where an instruction goes on in its routine (this project's own).
-use Rattle.std.specs.Prelude.{ℕ, ◌+◌, nat_eq, nat_lt, List, [], ◌∷◌, ◌++◌, Option, None, Some, slice_get, length, if◌then◌else◌}
-use Rattle.std.specs.List.{position}
+use Rattle.std.specs.Prelude.{ℕ, ◌≡◌, ◌<◌, ◌+◌, Bool, nat_eq, nat_lt, List, [], ◌∷◌, ◌++◌, Option, None, Some, slice_get, slice_index_or, length, if◌then◌else◌}
+use Rattle.std.specs.List.{filter, list_any, position, range_with_len}
 use Rattle.sp_graph.specs.Control.{control_of}
 use Rattle.sp_graph.specs.declared.control.Control.{Control}
 use Rattle.sp_graph.specs.declared.control.Control.TheVariants.{Jump, JumpIf, Return, Halt}
@@ -45,3 +45,16 @@ successors_of code at (Some s) = listed (next_by code at (control_of s.instr)) +
 
 abbrev pub successors : List Stmt → ℕ → List ℕ
 successors code at = successors_of code at (slice_get code at)
+
+-- whether an instruction goes on at another
+abbrev pub is_successor : List Stmt → ℕ → ℕ → Bool
+is_successor code to at = list_any (nat_eq to) (successors code at)
+
+-- the places of the instructions among the first ones that go on at this one, in rising order
+abbrev pub first_before : List Stmt → ℕ → ℕ → List ℕ
+first_before code count to = filter (is_successor code to) (range_with_len 0 count)
+
+-- for each instruction the places of those that go on there, in rising order
+pub record AreBefore (code : List Stmt) (lists : List (List ℕ)) : Type 0 where
+  pub size : length lists ≡ length code
+  pub each : (to : ℕ) → to < length code → slice_index_or lists to [] ≡ first_before code (length code) to

@@ -1,3 +1,4 @@
+pub mod Before
 pub mod Counts
 pub mod Outcomes
 pub mod Search

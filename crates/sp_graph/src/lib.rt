@@ -19,7 +19,7 @@ mod walk;
 
 pub use control::{Control, accesses, control_of};
 pub use counting::{count, count_all};
-pub use edges::successors;
+pub use edges::{before, successors};
 pub use graph::{Branch, End, Node, access_at, branch_at, has_assertion, way_at};
 pub use laws::{walks_are_listed, walks_come_in_order};
 pub use list::Walks;

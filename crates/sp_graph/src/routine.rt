@@ -6,10 +6,10 @@ ghost use Rattle.sp_graph.specs.Routines.{graph_of};
 ghost use Rattle.sp_graph.specs.Walks.{walks, cuts, cut_of};
 
 use crate::counting::{count, count_all};
+use crate::graph::has_assertion;
 use crate::list::Walks;
 use crate::nodes::graph_of;
 use crate::sorting::{Outcome, sort};
-use crate::graph::has_assertion;
 use crate::{Cut, Node, Search, WalksRefusal};
 use sp_base::Memory;
 use sp_prog::Unit;

@@ -1,8 +1,7 @@
-use Rattle.std.proofs.Common.{◌≡◌, ◌≤◌, ◌∙◌, ◌++◌, ◌∷◌, ◌+◌, [], sym, ap, arith, length, slice_get, true, false, append_assoc, map, Some}
+use Rattle.std.proofs.Common.{◌≡◌, ◌∙◌, ◌++◌, ◌∷◌, ◌+◌, [], sym, ap, arith, slice_get, true, false, append_assoc, map, Some}
 use Rattle.std.proofs.lemmas.List.{append-nil}
 use Rattle.sp_graph.specs.Graph.{asserted_in}
 use Rattle.sp_graph.specs.Walks.{assertions_from, cuts, cut_of}
-use Rattle.sp_graph.specs.declared.walk.Cut.{Cut}
 use Rattle.sp_graph.specs.declared.walk.Cut.TheVariants.{At}
 use Rattle.sp_graph.proofs.CutLemmas.{cuts_next, no_cuts_after}
 use Rattle.sp_graph.proofs.routine.cuts.Goals as goal
