@@ -1,4 +1,5 @@
 pub mod CommandLemmas
+pub mod EndLemmas
 pub mod FormLemmas
 pub mod StageLemmas
 pub mod TextLemmas

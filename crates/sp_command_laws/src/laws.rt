@@ -1,5 +1,6 @@
 //! What is said of commands, by example.
 ghost use Rattle.sp_command_laws.specs.Commands.{HaveForms, LimitFiles, NameFiles, OrderReads, OrderRefusals};
+ghost use Rattle.sp_command_laws.specs.Ends.{FollowReads, KeepPromises, SayStatuses, WriteOnce};
 ghost use Rattle.sp_command_laws.specs.Texts.{NumberExits, PrintTexts};
 
 /// The words of a command are its name, the names of its files, and for a run its options.
@@ -35,4 +36,25 @@ pub fn texts_are_printed()
 /// Each status has its own exit number.
 pub fn statuses_have_numbers()
     ensures { NumberExits }
+{}
+
+/// Whatever a command's status, its image file holds what it held or a front of its image, and the sink took a front of one
+/// of its texts, or nothing.
+pub fn files_and_sinks_hold_fronts()
+    ensures { KeepPromises }
+{}
+
+/// Done puts the report, Refused the refusal that stands, and no other status has a text.
+pub fn statuses_have_texts()
+    ensures { SayStatuses }
+{}
+
+/// How its reads ended says which statuses a command may have.
+pub fn statuses_follow_reads()
+    ensures { FollowReads }
+{}
+
+/// An image is written once at most.
+pub fn images_are_written_once()
+    ensures { WriteOnce }
 {}
