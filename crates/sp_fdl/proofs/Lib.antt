@@ -1,3 +1,14 @@
+pub mod FitLemmas
+pub mod FormAgainLemmas
+pub mod FormIsLemmas
+pub mod NameLemmas
 pub mod NumberLemmas
+pub mod OperatorAgainLemmas
+pub mod OperatorLemmas
+pub mod PrintedLemmas
+pub mod StandsLemmas
 pub mod StepLemmas
+pub mod StepReadLemmas
 pub mod TakenLemmas
+pub mod TextLemmas
+pub mod ValueLemmas

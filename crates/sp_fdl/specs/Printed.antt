@@ -24,13 +24,13 @@ location_name loc.Cy = codes "cy"
 abbrev pub variable_text : Var → List ℕ
 variable_text (var.Entry x) = location_name x ++ codes "~"
 variable_text (var.Now x) = location_name x
-variable_text (var.After x j) = location_name x ++ codes "_" ++ decimal j
+variable_text (var.After x j) = location_name x ++ (codes "_" ++ decimal j)
 variable_text var.MemEntry = codes "mem~"
 variable_text var.Mem = codes "mem"
 variable_text (var.MemAfter j) = codes "mem_" ++ decimal j
 variable_text (var.In j) = codes "in_" ++ decimal j
-variable_text (var.SlotHigh j) = codes "stk" ++ decimal j ++ codes "h"
-variable_text (var.SlotLow j) = codes "stk" ++ decimal j ++ codes "l"
+variable_text (var.SlotHigh j) = codes "stk" ++ (decimal j ++ codes "h")
+variable_text (var.SlotLow j) = codes "stk" ++ (decimal j ++ codes "l")
 variable_text (var.Any j) = codes "k_" ++ decimal j
 variable_text (var.Bound j) = codes "i" ++ decimal j
 

@@ -3,6 +3,7 @@
 #![tactic(auto)]
 
 mod found;
+mod laws;
 mod names;
 mod numbers;
 mod operator;
@@ -13,6 +14,7 @@ mod sort;
 mod tokens;
 mod word;
 
+pub use laws::{a_printed_text_stands_for_its_term, a_text_stands_for_one_tree};
 pub use printing::print;
 pub use reading::read;
 pub use refusal::FdlRefusal;

@@ -1,5 +1,8 @@
-ghost use Rattle.std.specs.Prelude.{◌≡◌, ◌∷◌, IfOk};
+ghost use Rattle.std.specs.Prelude.{◌≡◌, ◌∷◌, IfOk, IfErr};
+ghost use Rattle.sp_term.specs.Tree.{Tree};
 ghost use Rattle.sp_term.specs.Terms.{tree_of};
+ghost use Rattle.sp_fdl.specs.Text.{StandsFor};
+ghost use Rattle.sp_fdl.specs.declared.refusal.FdlRefusal.TheVariants.{Syntax};
 ghost use Rattle.sp_fdl.specs.code.Reading as reading;
 ghost use Rattle.sp_fdl.specs.code.Reading.{Answers, AnswersTerm, seen, seen_operator, read_at, read_of, pairing, quantifying};
 
@@ -444,9 +447,9 @@ fn term<'a, 't>(place: Place<'a, '_>, text: &'t [u8]) -> Result<Found<'a, 't>, F
     form(inside, text)
 }
 
-/// The term that a text stands for, as `( a~+ 1)` for `(a~ + 1)`. No blanks stand at the two ends of a text.
+/// The term that the reader takes from a whole text.
 #[tactic(auto, unfolding(crate::specs::code::Reading::read_of))]
-pub fn read<'a>(alloc: Global, text: &[u8], arena: &'a Bump) -> Result<&'a Term<'a>, FdlRefusal>
+fn read_whole<'a>(alloc: Global, text: &[u8], arena: &'a Bump) -> Result<&'a Term<'a>, FdlRefusal>
     ensures { AnswersTerm result (read_of text.now) }
 {
     let place = Place {
@@ -460,4 +463,14 @@ pub fn read<'a>(alloc: Global, text: &[u8], arena: &'a Bump) -> Result<&'a Term<
         [] => Ok(found.term),
         [_, ..] => Err(FdlRefusal::Syntax),
     }
+}
+
+/// The term that a text stands for, as `( a~+ 1)` for `(a~ + 1)`. No blanks stand at the two ends of a text. It is refused
+/// with Syntax exactly where it stands for no term.
+#[tactic(auto, using(crate::proofs::StandsLemmas::read_stands, crate::proofs::StandsLemmas::none_stands))]
+pub fn read<'a>(alloc: Global, text: &[u8], arena: &'a Bump) -> Result<&'a Term<'a>, FdlRefusal>
+    ensures ok { IfOk result (λ t. StandsFor text.now t.now) }
+    ensures syntax { IfErr result (λ e. e ≡ Syntax → (t : Tree) → ¬ StandsFor text.now t) }
+{
+    read_whole(alloc, text, arena)
 }
