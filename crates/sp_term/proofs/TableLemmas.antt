@@ -25,3 +25,6 @@ entry_below es t k s e h = (t.made k s e h).below
 -- no two places have one tree
 pub one_place : (es : List (Shape × Entry)) (ts : List Tree) → trees_in es ≡ ts → IsTable es → (j k : ℕ) → j < length ts → k < length ts → (nat_eq j k ≡ true) ↔ (tree_at ts j ≡ tree_at ts k)
 one_place es ts v t j k p q = ((λ h. ap (tree_at ts) (eqb-true j k h)), (λ h. eq-eqb j k (subst IsDistinct v t.distinct j k p q h)))
+
+pub distinct_trees : (es : List (Shape × Entry)) (ts : List Tree) → trees_in es ≡ ts → IsTable es → IsDistinct ts
+distinct_trees es ts v t = subst IsDistinct v t.distinct

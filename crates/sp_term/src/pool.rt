@@ -1,7 +1,7 @@
 ghost use Rattle.std.specs.Prelude.{◌≡◌, ◌<◌, ◌↔◌, ◌++◌, ◌∷◌, [], length, IfOk, IfSome, IfNone, OnErr, IsTrue};
 ghost use Rattle.sp_term.specs.Terms.{tree_of};
 ghost use Rattle.sp_term.specs.Intervals.{interval, literal as literal_of, is_memory_variable};
-ghost use Rattle.sp_term.specs.Pools.{tree_at, shape_tree, IsBelow, Grows, IsPlace, IsAdded, IsAbsent};
+ghost use Rattle.sp_term.specs.Pools.{tree_at, shape_tree, IsBelow, IsDistinct, Grows, IsPlace, IsAdded, IsAbsent};
 
 use crate::interval::{
     hull, is_memory, of_difference, of_multiple, of_quotient, of_remainder, of_sum, of_total,
@@ -134,6 +134,14 @@ impl<'a> Pool<'a> {
     {
         let _ = &self.table;
         x.0 == y.0
+    }
+
+    /// No two places have one tree.
+    #[tactic(auto, using(crate::proofs::TableLemmas::distinct_trees))]
+    pub fn distinct(&self)
+        ensures { IsDistinct self.now }
+    {
+        let _ = &self.table;
     }
 
     /// The node with the terms of its parts.
