@@ -2,6 +2,7 @@ pub mod BitLemmas
 pub mod ConditionLemmas
 pub mod IntervalLemmas
 pub mod LeadLemmas
+pub mod MarkLemmas
 pub mod MemoLemmas
 pub mod NodeLemmas
 pub mod OneLemmas

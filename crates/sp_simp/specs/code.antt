@@ -1,3 +1,4 @@
+pub mod Marks
 pub mod Plans
 pub mod Rows
 pub mod Weight

@@ -6,6 +6,7 @@ mod cells;
 mod comparisons;
 mod conditions;
 mod formulas;
+mod kept;
 mod laws;
 mod memo;
 mod next;
@@ -17,7 +18,7 @@ mod roots;
 mod step;
 mod sums;
 
-pub use conditions::simple;
+pub use conditions::{simple, simplify};
 pub use laws::{
     a_tree_has_one_simple_form, admissible_environments_are_in_ranges, conditions_keep_their_truth,
     no_rule_adds_nodes, rules_by_example, rules_keep_values, simple_forms_keep_terms,
