@@ -1,3 +1,5 @@
+pub mod ClosedFormulaLemmas
+pub mod ClosedLemmas
 pub mod EqualityLemmas
 pub mod NoteLemmas
 pub mod RowLemmas

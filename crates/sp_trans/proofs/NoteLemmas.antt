@@ -74,11 +74,11 @@ HasNumbers e [] [] = ⊤
 HasNumbers e (name ∷ names) (p ∷ b) = (p.0 ≡ name) × (e.int (var.Bound (length names + 1)) ≡ p.1) × HasNumbers e names b
 HasNumbers e _ _ = ⊥
 
-in_rest : (bound name : List ℕ) (names : List (List ℕ)) → bytes_eq bound name ≡ false → Contains (bound ∷ names) name → Contains names name
+pub in_rest : (bound name : List ℕ) (names : List (List ℕ)) → bytes_eq bound name ≡ false → Contains (bound ∷ names) name → Contains names name
 in_rest bound name names other (zero, less, is) = absurd (let same = (bytes_eq-Decides bound name).1 is in true≢false (sym same ∙ other))
 in_rest bound name names other (suc k, less, is) = (k, omega arith, is)
 
-not_in_none : (name : List ℕ) → Contains [] name → ⊥
+pub not_in_none : (name : List ℕ) → Contains [] name → ⊥
 not_in_none name h = let less = h.1 in omega arith
 
 number_value : (e : Env) (names : List (List ℕ)) (b : Bindings) (name : List ℕ) → HasNumbers e names b → Contains names name → e.int (var.Bound (name_number names name)) ≡ bound_value b name

@@ -38,5 +38,5 @@ StatesStaySymbolic = (i : Instr) (j : ℕ) (g : Symbolic) → (IsIn i → 1 ≤ 
 -- So is the formula of a note, of the sort of formulas.
 abbrev pub FormulasAreClosed : Type 0
 FormulasAreClosed =
-    (p : Note) (g0 g : Symbolic) → IsClosed p → NoteFits (length g.slots) p → IsSymbolic g0 → IsSymbolic g
+    (p : Note) (g0 g : Symbolic) → IsClosed p → IsSymbolic g0 → IsSymbolic g
     → IsClosedTerm Formula (formula_of g0 g p)

@@ -10,3 +10,13 @@ pub fn steps_are_translated()
 pub fn notes_are_translated()
     ensures { NotesAreTranslated }
 {}
+
+/// Each part of a symbolic state stays a closed term of its sort.
+pub fn states_stay_symbolic()
+    ensures { StatesStaySymbolic }
+{}
+
+/// The formula of a note over two such states is a closed formula.
+pub fn formulas_are_closed()
+    ensures { FormulasAreClosed }
+{}

@@ -15,6 +15,6 @@ mod transfers;
 mod translation;
 
 pub use formulas::note_term;
-pub use laws::{notes_are_translated, steps_are_translated};
+pub use laws::{formulas_are_closed, notes_are_translated, states_stay_symbolic, steps_are_translated};
 pub use symbolic::Sym;
 pub use translation::apply;
