@@ -1,6 +1,6 @@
 -- The formula of a closed note is a closed term.
-use Rattle.std.proofs.Common.{◌≡◌, ◌≢◌, ℕ, zero, suc, ◌+◌, ◌<◌, ◌≤◌, ◌⊎◌, inl, inr, Bool, true, false, cond, not, List, [], ◌∷◌, length, refl, sym, ap, subst, ◌∙◌, arith, pos}
-use Rattle.std.specs.Prelude.{◌&&◌, ◌||◌, ◌==◌, Contains, bytes_eq, if◌then◌else◌}
+use Rattle.std.proofs.Common.{◌≡◌, ◌≢◌, ℕ, zero, suc, ◌+◌, ◌<◌, ◌≤◌, ◌⊎◌, inl, inr, Bool, true, false, cond, not, List, [], ◌∷◌, length, refl, sym, ap, subst, arith}
+use Rattle.std.specs.Prelude.{◌&&◌, ◌==◌, Contains, bytes_eq}
 use Rattle.std.specs.List.{AllByRecursion}
 use Rattle.std.proofs.lemmas.Bool.Decides.{nat_tests}
 use Rattle.std.proofs.lemmas.List.Elements.{recursion_from_All}
@@ -8,10 +8,10 @@ use Rattle.sp_base.specs.declared.pair.Pair.TheVariants as pair
 use Rattle.sp_model.specs.Note as note
 use Rattle.sp_model.specs.Note.{Moment, RegisterPair, Operator, Quantity, Comparison, Connective, Quantifier, Note, HasBoundNames, BindsNames}
 use Rattle.sp_term.specs.declared.var.Var.TheVariants as var
-use Rattle.sp_term.specs.Tree.{Tree, Truth, Variable, Total, LessOrEqual, Not, And, Implies, Iff, ForAll, ForSome}
+use Rattle.sp_term.specs.Tree.{Tree}
 use Rattle.sp_term.specs.Free.{var_eq, is_free}
-use Rattle.sp_term.specs.Sorts.{Sort, Int, Formula, Memory, HasSort}
-use Rattle.sp_trans.specs.Symbolic.{Word, Symbolic, joined, number}
+use Rattle.sp_term.specs.Sorts.{Sort, Int, Formula, HasSort}
+use Rattle.sp_trans.specs.Symbolic.{Word, Symbolic}
 use Rattle.sp_trans.specs.Formulas.{state_at, register_pair_term, stack_term, name_number, operation, quantity_term, comparison_formula, connective_formula, quantifier_formula, formula_in}
 use Rattle.sp_trans.specs.ClosedTerms.{IsClosedTerm, IsClosedWord, IsSymbolic}
 use Rattle.sp_trans.specs.Theorems.{FormulasAreClosed}

@@ -1,12 +1,10 @@
 -- Translation makes closed terms of their sorts from closed terms of their sorts.
-use Rattle.std.proofs.Common.{◌≡◌, ℕ, ◌+◌, ◌/◌, ◌%◌, ◌<◌, ◌≤◌, Bool, true, false, cond, not, List, [], ◌∷◌, length, refl, sym, ap, subst, ◌∙◌, arith, pos, lit<, All}
-use Rattle.std.specs.Prelude.{◌&&◌, ◌||◌, IsTrue}
+use Rattle.std.proofs.Common.{◌≡◌, ℕ, ◌/◌, ◌%◌, ◌≤◌, Bool, true, false, cond, List, [], ◌∷◌, refl, sym, subst, arith, All}
+use Rattle.std.specs.Prelude.{◌||◌}
 use Rattle.std.specs.List.{AllByRecursion}
 use Rattle.std.proofs.lemmas.List.Elements.{recursion_from_All, All-from_recursion}
 use Rattle.sp_base.specs.declared.location.Loc.{Loc}
 use Rattle.sp_base.specs.declared.location.Loc.TheVariants as loc
-use Rattle.sp_base.specs.declared.location.Reg.{Reg}
-use Rattle.sp_base.specs.declared.location.Reg.TheVariants as reg
 use Rattle.sp_base.specs.declared.pair.Pair.{Pair}
 use Rattle.sp_base.specs.declared.pair.Pair.TheVariants as pair
 use Rattle.sp_base.specs.Location.{loc_of}
@@ -16,16 +14,14 @@ use Rattle.sp_isa.specs.declared.instr.StackPair.{StackPair}
 use Rattle.sp_isa.specs.declared.instr.StackPair.TheVariants as stack
 use Rattle.sp_isa.specs.declared.instr.Op.{Op}
 use Rattle.sp_isa.specs.declared.instr.Op.TheVariants as op
-use Rattle.sp_isa.specs.declared.instr.Instr.{Instr}
 use Rattle.sp_isa.specs.declared.instr.Instr.TheVariants.{Mov, Mvi, Inr, Dcr, Alu, AluImmediate, Lxi, Dad, Inx, Dcx, Stax, Ldax, Shld, Lhld, Sta, Lda, Rlc, Rrc, Ral, Rar, Daa, Cma, Stc, Cmc, Push, Pop, Xthl, Xchg, In}
 use Rattle.sp_term.specs.declared.var.Var.TheVariants as var
-use Rattle.sp_term.specs.Tree.{Tree, Variable, Add, Subtract, Multiply, Divide, Remainder, ByteAnd, ByteOr, ByteXor, Parity, Bit, Psw, If, Element, Update, Equal, Less, Or}
-use Rattle.sp_term.specs.Free.{is_free, IsClosed}
-use Rattle.sp_term.specs.Sorts.{Sort, Int, Formula, Memory, HasSort}
+use Rattle.sp_term.specs.Tree.{Tree, Add, Subtract, Multiply, Divide, Remainder, ByteAnd, ByteOr, ByteXor, Parity, Bit, Psw, If, Element, Update, Equal, Less, Or}
+use Rattle.sp_term.specs.Free.{is_free}
+use Rattle.sp_term.specs.Sorts.{Int, Formula, Memory}
 use Rattle.sp_trans.specs.Symbolic.{Word, Symbolic, term_at, with_term, with_memory, with_slots, number, divided, joined, pair_term}
-use Rattle.sp_trans.specs.Translation.{modulo, over, flag_if, element, arg_term, with_cell_term, with_arg_term, with_bytes, with_word, with_szp_term, increased, decreased, with_sum, with_compared, with_difference, with_logic, operated, pair_added, adjusted, rotated, doubled, exchanged, next, pushed, with_flag_bits, with_top, popped, top_exchanged, applied}
+use Rattle.sp_trans.specs.Translation.{modulo, over, arg_term, with_cell_term, with_arg_term, with_bytes, with_word, with_szp_term, increased, decreased, with_sum, with_compared, with_difference, with_logic, operated, pair_added, adjusted, rotated, doubled, exchanged, next, pushed, with_flag_bits, with_top, popped, top_exchanged, applied}
 use Rattle.sp_trans.specs.ClosedTerms.{IsClosedTerm, IsClosedWord, IsSymbolic}
-use Rattle.sp_trans.specs.Meaning.{IsIn}
 use Rattle.sp_trans.specs.Theorems.{StatesStaySymbolic}
 
 abbrev pub IsInt : Tree → Type 0

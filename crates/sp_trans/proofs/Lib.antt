@@ -1,7 +1,10 @@
+pub mod CallLemmas
 pub mod ClosedFormulaLemmas
 pub mod ClosedLemmas
 pub mod EqualityLemmas
+pub mod ExampleLemmas
 pub mod NoteLemmas
+pub mod PointerLemmas
 pub mod RowLemmas
 pub mod StackLemmas
 pub mod StepLemmas

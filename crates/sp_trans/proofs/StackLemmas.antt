@@ -43,7 +43,7 @@ room_of_push f (suc n) sp region places points low high =
 slot_cell : (cells : List ℕ) (w v a : ℕ) → a % 65536 ≢ w → slice_index (slice_set cells w v) (a % 65536) ≡ slice_index cells (a % 65536)
 slot_cell cells w v a h = get_or-set_other cells w (a % 65536) v 0 h
 
-in_stack_true : (a : ℕ) (f : Frame) → f.first ≤ a → a ≤ f.last → is_in_stack a f ≡ true
+pub in_stack_true : (a : ℕ) (f : Frame) → f.first ≤ a → a ≤ f.last → is_in_stack a f ≡ true
 in_stack_true a f low high = grind (arith, nat_tests)
 
 -- a write in the stack region isn't seen
@@ -87,7 +87,7 @@ cell_other : (core : Core) (w a v : ℕ) → w < 65536 → a % 65536 ≢ w → s
 cell_other core w a v low ne = ap (λ cells. slice_index cells (a % 65536)) (with_cell_cells w v core low) ∙ get_or-set_other core.cells w (a % 65536) v 0 ne
 
 -- a core with two bytes written at plain addresses
-abbrev put : ℕ → ℕ → ℕ → Core → Core
+abbrev pub put : ℕ → ℕ → ℕ → Core → Core
 put sp high low core = with_cell sp low (with_cell (sp + 1) high core)
 
 pub long_cell : (core : Core) (w v : ℕ) → w < 65536 → length core.cells ≡ 65536 → length (with_cell w v core).cells ≡ 65536
@@ -113,7 +113,7 @@ pub with_cell_at : (a b v : ℕ) (core : Core) → a % 65536 ≡ b % 65536 → w
 unfolding with_cell
 with_cell_at a b v core h = ap (λ n. record core { cells = slice_set core.cells n v }) h
 
-push_is : (sp high low : ℕ) (core : Core) → core.sp ≡ sp + 2 → sp < 65534 → push high low core ≡ with_sp (core.sp + 65534) (put sp high low core)
+pub push_is : (sp high low : ℕ) (core : Core) → core.sp ≡ sp + 2 → sp < 65534 → push high low core ≡ with_sp (core.sp + 65534) (put sp high low core)
 unfolding push
 push_is sp high low core is small =
     ap (λ c. with_sp (core.sp + 65534) (with_cell (core.sp + 65534) low c)) (with_cell_at (core.sp + 65535) (sp + 1) high core (omega arith))

@@ -39,7 +39,7 @@ low_word w bytes = let high : w / 256 < 256 = bytes 1 0 (lit< tt) in omega arith
 next_low : (w : ℕ) → next w < 65536
 next_low w = omega arith
 
-value_choice : {f : Frame} {e : Env} {g : Symbolic} (b : Bool) {one two : Core} → IsValueOf f e g one → IsValueOf f e g two → IsValueOf f e g (cond b one two)
+pub value_choice : {f : Frame} {e : Env} {g : Symbolic} (b : Bool) {one two : Core} → IsValueOf f e g one → IsValueOf f e g two → IsValueOf f e g (cond b one two)
 value_choice true h k = h
 value_choice false h k = k
 
@@ -138,7 +138,7 @@ unfolding with_sp
 sp_loc loc.A w core = refl
 sp_loc x w core = refl
 
-value_sp : {f : Frame} {e : Env} {g : Symbolic} {core : Core} (w : ℕ) → IsValueOf f e g core → IsValueOf f e g (with_sp w core)
+pub value_sp : {f : Frame} {e : Env} {g : Symbolic} {core : Core} (w : ℕ) → IsValueOf f e g core → IsValueOf f e g (with_sp w core)
 unfolding with_sp
 value_sp {core = core} w h = record { locations = λ x. named (sym (sp_loc x w core)) (h.locations x); memory = h.memory; slots = h.slots }
 

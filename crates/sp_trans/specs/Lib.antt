@@ -1,4 +1,5 @@
 pub mod ClosedTerms
+pub mod Examples
 pub mod Formulas
 pub mod Meaning
 pub mod Symbolic

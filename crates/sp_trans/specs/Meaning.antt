@@ -120,3 +120,18 @@ pub record Asks (f : Frame) (i : Instr) (g : Symbolic) (core : Core) : Type 0 wh
   pub room : IsPush i → (f.first + 2 ≤ core.sp) × (core.sp ≤ f.last + 1)
   pub words : words_taken i ≤ length g.slots
   pub cells : All (λ a. ¬ IsInStack f a) (addressed i core)
+
+-- ---- calls
+
+abbrev pub IsCall : Instr → Type 0
+IsCall (Call w) = ⊤
+IsCall (Ccc when w) = ⊤
+IsCall (Rst n) = ⊤
+IsCall i = ⊥
+
+-- What is asked of a call: as of a PUSH, there is room for the return address below the words.
+pub record AsksCall (f : Frame) (g : Symbolic) (core : Core) : Type 0 where
+  pub region : f.last < 65535
+  pub places : HasPlaces f (length g.slots)
+  pub pointer : HasPointer f g core
+  pub room : (f.first + 2 ≤ core.sp) × (core.sp ≤ f.last + 1)

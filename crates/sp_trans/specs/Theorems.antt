@@ -11,7 +11,7 @@ use Rattle.sp_trans.specs.Symbolic.{Symbolic}
 use Rattle.sp_trans.specs.Translation.{applied}
 use Rattle.sp_trans.specs.Formulas.{formula_of, NoteFits}
 use Rattle.sp_trans.specs.ClosedTerms.{IsClosedTerm, IsSymbolic}
-use Rattle.sp_trans.specs.Meaning.{IsValueOf, IsIn, Asks}
+use Rattle.sp_trans.specs.Meaning.{IsValueOf, HasPointer, SetsPointer, IsIn, Asks, IsCall, AsksCall}
 
 -- Where a state's core is the value of a symbolic state, and its next instruction meets what is asked, the core after the
 -- step is the value of the symbolic state after the instruction. The variable of an IN is the byte that it takes.
@@ -21,6 +21,20 @@ StepsAreTranslated =
     → IsState s → s.core.halted ≡ false → next_instr s.core ≡ Some (i, n) → Asks f i g s.core
     → (IsIn i → e.int (var.In j) ≡ pos (next_input s))
     → IsValueOf f e g s.core → IsValueOf f e (applied i j g) (step s).core
+
+-- After the step the stack pointer is at the newest word again, unless the instruction sets it.
+abbrev pub PointersStay : Type 0
+PointersStay =
+    (f : Frame) (g : Symbolic) (s : State) (i : Instr) (n j : ℕ)
+    → IsState s → s.core.halted ≡ false → next_instr s.core ≡ Some (i, n) → Asks f i g s.core
+    → ¬ SetsPointer i → HasPointer f (applied i j g) (step s).core
+
+-- A call, taken or not, leaves the core the value of the symbolic state: the return address lies below the words.
+abbrev pub CallsKeepValues : Type 0
+CallsKeepValues =
+    (f : Frame) (e : Env) (g : Symbolic) (s : State) (i : Instr) (n : ℕ)
+    → s.core.halted ≡ false → next_instr s.core ≡ Some (i, n) → IsCall i → AsksCall f g s.core
+    → IsValueOf f e g s.core → IsValueOf f e g (step s).core
 
 -- A note is true exactly where its formula is, between two cores that are the values of two symbolic states. No bound name
 -- of it stands outside its quantifier, and each STKk lies within the words of the second state.

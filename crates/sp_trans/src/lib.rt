@@ -15,6 +15,9 @@ mod transfers;
 mod translation;
 
 pub use formulas::note_term;
-pub use laws::{formulas_are_closed, notes_are_translated, states_stay_symbolic, steps_are_translated};
+pub use laws::{
+    calls_keep_values, formulas_are_closed, notes_are_translated, pointers_stay, premises_are_met,
+    states_stay_symbolic, steps_are_translated, translation_by_example,
+};
 pub use symbolic::Sym;
 pub use translation::apply;
