@@ -80,16 +80,34 @@ fn operate(alloc: Global, o: Operator, x: Quantity, y: Quantity) -> Result<Quant
 #[test]
 fn names_are_looked_up_at_their_moment(rt: HostRuntime) -> Result<(), Fail> {
     let alloc = rt.alloc();
-    let left = cell(alloc, Moment::Now, Quantity::Pair(Moment::AtEntry, RegisterPair::De))?;
-    let right = cell(alloc, Moment::AtEntry, Quantity::Location(Moment::Now, Loc::Cy))?;
+    let left = cell(
+        alloc,
+        Moment::Now,
+        Quantity::Pair(Moment::AtEntry, RegisterPair::De),
+    )?;
+    let right = cell(
+        alloc,
+        Moment::AtEntry,
+        Quantity::Location(Moment::Now, Loc::Cy),
+    )?;
     let note = Note::Compare(Comparison::Greater, left, right);
-    check(&rt, alloc, &note, "(element(mem~,[cy]) < element(mem,[((256 * d~) + e~)]))")
+    check(
+        &rt,
+        alloc,
+        &note,
+        "(element(mem~,[cy]) < element(mem,[((256 * d~) + e~)]))",
+    )
 }
 
 #[test]
 fn words_go_from_the_base(rt: HostRuntime) -> Result<(), Fail> {
     let alloc = rt.alloc();
-    let sum = operate(alloc, Operator::Add, Quantity::StackWord(2), Quantity::Literal(1))?;
+    let sum = operate(
+        alloc,
+        Operator::Add,
+        Quantity::StackWord(2),
+        Quantity::Literal(1),
+    )?;
     let negative = Quantity::Negative(Box::new(alloc, Quantity::StackWord(1))?);
     let note = Note::Compare(Comparison::Unequal, sum, negative);
     let text = "(not ((((256 * stk2h) + stk2l) + 1) = (0 - ((256 * stk1h) + stk1l))))";
@@ -105,7 +123,10 @@ fn parts_keep_their_places(rt: HostRuntime) -> Result<(), Fail> {
     let a = Quantity::Location(Moment::AtEntry, Loc::A);
     let bits = operate(alloc, Operator::BitXor, a, Quantity::Literal(255))?;
     let parity = Quantity::Parity(Box::new(alloc, bits)?);
-    let compared = Box::new(alloc, Note::Compare(Comparison::GreaterOrEqual, total, parity))?;
+    let compared = Box::new(
+        alloc,
+        Note::Compare(Comparison::GreaterOrEqual, total, parity),
+    )?;
     let negated = Box::new(alloc, Note::Not(Box::new(alloc, Note::Constant(true))?))?;
     let note = Note::Connect(Connective::Implies, compared, negated);
     let text = "((par(bxor(a~,255)) <= total(mem~,[1],[((256 * b) + c)])) -> (not true))";

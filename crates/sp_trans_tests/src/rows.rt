@@ -19,9 +19,7 @@ pub static ENTRY: Texts = Texts {
 
 /// A state at an assertion, with two words on the stack.
 pub static STARTED: Texts = Texts {
-    locs: [
-        "a", "b", "c", "d", "e", "h", "l", "s", "z", "ac", "p", "cy",
-    ],
+    locs: ["a", "b", "c", "d", "e", "h", "l", "s", "z", "ac", "p", "cy"],
     mem: "mem",
     words: &[("stk1h", "stk1l"), ("stk2h", "stk2l")],
 };

@@ -16,9 +16,7 @@ pub struct Texts {
     pub words: &'static [(&'static str, &'static str)],
 }
 
-static NAMES: [&str; 12] = [
-    "A", "B", "C", "D", "E", "H", "L", "S", "Z", "AC", "P", "CY",
-];
+static NAMES: [&str; 12] = ["A", "B", "C", "D", "E", "H", "L", "S", "Z", "AC", "P", "CY"];
 
 fn term<'a>(alloc: Global, arena: &'a Bump, text: &str) -> Option<&'a Term<'a>> {
     read(alloc, text.as_bytes(), arena).ok()
@@ -80,7 +78,12 @@ fn words_text(alloc: Global, slots: &[(&Term, &Term)]) -> Result<Vec<u8>, Memory
 }
 
 /// What a symbolic state has that these texts don't: its terms by name, and all words where one is another.
-pub fn changes(alloc: Global, texts: &Texts, before: Sym<'_>, after: Sym<'_>) -> Result<Vec<u8>, Memory>
+pub fn changes(
+    alloc: Global,
+    texts: &Texts,
+    before: Sym<'_>,
+    after: Sym<'_>,
+) -> Result<Vec<u8>, Memory>
     requires { length after.locs.now ≡ 12 }
 {
     let mut out = Vec::new(alloc);
