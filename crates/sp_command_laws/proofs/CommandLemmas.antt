@@ -87,12 +87,12 @@ missing_is_memory e = cc
 memory_is_done : outcome.Memory ≡ outcome.Done → ⊥
 memory_is_done e = cc
 
-all_read : (names : List (List ℕ)) (calls : List Call) → AreReads names outcome.Done calls → calls ≡ map done names
+pub all_read : (names : List (List ℕ)) (calls : List Call) → AreReads names outcome.Done calls → calls ≡ map done names
 all_read [] calls h = h.1
 all_read (name ∷ names) calls (inl h) = h.1 ∙ ap (λ rest. done name ∷ rest) (all_read names h.0 h.2)
 all_read (name ∷ names) calls (inr h) = absurd (h.0 refl)
 
-reads_of : (names : List (List ℕ)) (calls : List Call) → calls ≡ map done names → AreReads names outcome.Done calls
+pub reads_of : (names : List (List ℕ)) (calls : List Call) → calls ≡ map done names → AreReads names outcome.Done calls
 reads_of [] calls e = (refl, e)
 reads_of (name ∷ names) calls e = inl (map done names, e, reads_of names (map done names) refl)
 

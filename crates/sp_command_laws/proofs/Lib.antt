@@ -1,5 +1,6 @@
 pub mod CommandLemmas
 pub mod EndLemmas
 pub mod FormLemmas
+pub mod SessionLemmas
 pub mod StageLemmas
 pub mod TextLemmas

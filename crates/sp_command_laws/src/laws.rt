@@ -1,6 +1,7 @@
 //! What is said of commands, by example.
 ghost use Rattle.sp_command_laws.specs.Commands.{HaveForms, LimitFiles, NameFiles, OrderReads, OrderRefusals};
 ghost use Rattle.sp_command_laws.specs.Ends.{FollowReads, KeepPromises, SayStatuses, WriteOnce};
+ghost use Rattle.sp_command_laws.specs.Sessions.{CallFiles};
 ghost use Rattle.sp_command_laws.specs.Texts.{NumberExits, PrintTexts};
 
 /// The words of a command are its name, the names of its files, and for a run its options.
@@ -57,4 +58,9 @@ pub fn statuses_follow_reads()
 /// An image is written once at most.
 pub fn images_are_written_once()
     ensures { WriteOnce }
+{}
+
+/// The calls of a command on files, by how it ended.
+pub fn commands_call_files()
+    ensures { CallFiles }
 {}
