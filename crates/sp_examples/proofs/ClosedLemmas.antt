@@ -69,7 +69,7 @@ module _ (f : Frame) (entry now : Core) where
       let low = same_value names b c h x closed.0 in
       let high = same_value names b c h y closed.1 in (
         quantified q _ _ _ _ _ _ low high
-        (λ n. (same_truth (name ∷ names) ((name, n) ∷ b) ((name, n) ∷ c) (more names b c name n h) p closed.2).0),
+            (λ n. (same_truth (name ∷ names) ((name, n) ∷ b) ((name, n) ∷ c) (more names b c name n h) p closed.2).0),
         quantified q _ _ _ _ _ _ (sym low) (sym high)
             (λ n. (same_truth (name ∷ names) ((name, n) ∷ b) ((name, n) ∷ c) (more names b c name n h) p closed.2).1),
       )
