@@ -1,3 +1,4 @@
+pub mod ExampleLemmas
 pub mod FitLemmas
 pub mod FormAgainLemmas
 pub mod FormIsLemmas

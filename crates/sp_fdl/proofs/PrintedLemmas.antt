@@ -1,12 +1,14 @@
 -- A printed text stands for the tree that was printed.
 use Rattle.std.proofs.Common.{◌≡◌, ℕ, ◌<◌, true, false, List, [], ◌∷◌, ◌++◌, refl, sym, ap, subst, ◌∙◌, append_assoc, arith, ℤ, pos, negsuc, suc, ◌^◌, true≢false, inl, inr}
-use Rattle.std.specs.Prelude.{codes, decimal, neg_ℤ, FitsSigned}
+use Rattle.std.specs.Prelude.{◌≤◌, codes, decimal, neg_ℤ, FitsSigned}
 use Rattle.std.specs.Int.{w64}
 use Rattle.std.specs.Fmt.{signed_decimal}
 use Rattle.std.specs.List.{list_all}
 use Rattle.std.proofs.lemmas.Fmt.{decimal_is_IsNumeral}
 use Rattle.std.proofs.lemmas.Int.{ints}
-use Rattle.sp_term.specs.Tree.{Tree, Literal, Truth, Variable, Add, Subtract, Multiply, Divide, Remainder, ByteAnd, ByteOr, ByteXor, Parity, Bit, Psw, If, Element, Update, Total, Equal, Less, LessOrEqual, Not, And, Or, Implies, Iff, ForAll, ForSome}
+use Rattle.sp_term.specs.Tree.{Tree, Literal, Truth, Variable, Add, Subtract, Multiply, Divide, Remainder, ByteAnd, ByteOr, ByteXor, Parity, Bit, Psw, If, Element, Update, Total, Equal, Less, LessOrEqual, Not, And, Or, Implies, Iff, ForAll, ForSome, depth_of}
+use Rattle.sp_term.specs.Sorts.{IsTerm}
+use Rattle.sp_term.specs.Free.{IsClosed}
 use Rattle.sp_fdl.specs.Printed.{text_of}
 use Rattle.sp_fdl.specs.Text.{is_blank, is_run, IsApart, Form, Token, Then, Between, Call, More, Last, Cell, Quantified, IsLiteral, Spells, HasNumbers, IsReadable, StandsFor}
 
@@ -105,3 +107,7 @@ printed (ForSome k x y p) h = subst (Spells (ForSome k x y p)) (simp append_asso
 
 pub printed_stands : (t : Tree) → IsReadable t → StandsFor (text_of t) t
 printed_stands t h = record { readable = h; spells = printed t h.numbers }
+
+pub print_stands : (t : Tree) (text : List ℕ) → text ≡ text_of t → HasNumbers t → IsTerm t → IsClosed t → depth_of t ≤ 2000 → StandsFor text t
+print_stands t text e numbers term closed shallow =
+    subst (λ w. StandsFor w t) (sym e) (printed_stands t (record { term = term; numbers = numbers; closed = closed; shallow = shallow }))

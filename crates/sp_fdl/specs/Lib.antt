@@ -1,3 +1,4 @@
+pub mod Examples
 pub mod Printed
 pub mod Text
 pub mod code

@@ -14,7 +14,7 @@ mod sort;
 mod tokens;
 mod word;
 
-pub use laws::{a_printed_text_stands_for_its_term, a_text_stands_for_one_tree};
+pub use laws::{a_printed_text_stands_for_its_term, a_text_stands_for_one_tree, texts_by_example};
 pub use printing::print;
 pub use reading::read;
 pub use refusal::FdlRefusal;

@@ -1,6 +1,10 @@
-ghost use Rattle.std.specs.Prelude.{◌≡◌, ◌++◌, IfOk, OnOk, codes, decimal};
+ghost use Rattle.std.specs.Prelude.{◌≤◌, FitsSigned, ◌≡◌, ◌++◌, IfOk, OnOk, codes, decimal};
 ghost use Rattle.std.specs.Fmt.{signed_decimal};
-ghost use Rattle.sp_term.specs.Tree.{Bit, Psw, Truth};
+ghost use Rattle.std.specs.Int.{w64};
+ghost use Rattle.sp_term.specs.Tree.{Bit, Psw, Truth, depth_of};
+ghost use Rattle.sp_term.specs.Sorts.{IsTerm};
+ghost use Rattle.sp_term.specs.Free.{IsClosed};
+ghost use Rattle.sp_fdl.specs.Text.{HasNameNumber, HasNumbers, StandsFor};
 ghost use Rattle.sp_term.specs.Terms.{tree_of};
 ghost use Rattle.sp_fdl.specs.Printed.{variable_text, text_of};
 
@@ -22,7 +26,8 @@ fn push_numbered(text: &mut Vec<u8>, front: &str, number: u32, back: &str) -> Re
 
 /// Adds a variable.
 fn push_variable(text: &mut Vec<u8>, variable: Var) -> Result<(), Memory>
-    ensures { OnOk result (text.new.items ≡ text.old.items ++ variable_text variable) }
+    ensures text { OnOk result (text.new.items ≡ text.old.items ++ variable_text variable) }
+    ensures numbers { OnOk result (HasNameNumber variable) }
 {
     match variable {
         Var::Entry(x) => {
@@ -57,7 +62,8 @@ fn push_truth(text: &mut Vec<u8>, b: bool) -> Result<(), Memory>
 
 /// Adds a literal.
 fn push_literal(text: &mut Vec<u8>, n: i64) -> Result<(), Memory>
-    ensures { OnOk result (text.new.items ≡ text.old.items ++ signed_decimal n) }
+    ensures text { OnOk result (text.new.items ≡ text.old.items ++ signed_decimal n) }
+    ensures numbers { OnOk result (FitsSigned w64 n) }
 {
     let mut buffer = itoa::Buffer::new();
     text.extend_from_slice(buffer.format(n).as_bytes())?;
@@ -67,7 +73,8 @@ fn push_literal(text: &mut Vec<u8>, n: i64) -> Result<(), Memory>
 /// Adds a term between two texts.
 #[cycle(printing)]
 fn push_part(text: &mut Vec<u8>, front: &str, part: &Term, back: &str) -> Result<(), Memory>
-    ensures { OnOk result (text.new.items ≡ text.old.items ++ (front.now ++ text_of part.now ++ back.now)) }
+    ensures text { OnOk result (text.new.items ≡ text.old.items ++ (front.now ++ text_of part.now ++ back.now)) }
+    ensures numbers { OnOk result (HasNumbers part.now) }
 {
     text.extend_from_slice(front.as_bytes())?;
     push_kind(text, part.kind())?;
@@ -85,8 +92,9 @@ fn push_two(
     y: &Term,
     back: &str,
 ) -> Result<(), Memory>
-    ensures { OnOk result (text.new.items
+    ensures text { OnOk result (text.new.items
         ≡ text.old.items ++ (front.now ++ text_of x.now ++ middle.now ++ text_of y.now ++ back.now)) }
+    ensures numbers { OnOk result (HasNumbers x.now × HasNumbers y.now) }
 {
     push_part(text, front, x, middle)?;
     push_part(text, "", y, back)?;
@@ -96,8 +104,9 @@ fn push_two(
 /// Adds two terms in parentheses, with a sign or a word between them.
 #[cycle(printing)]
 fn push_infix(text: &mut Vec<u8>, x: &Term, sign: &str, y: &Term) -> Result<(), Memory>
-    ensures { OnOk result (text.new.items
+    ensures text { OnOk result (text.new.items
         ≡ text.old.items ++ (codes "(" ++ text_of x.now ++ sign.now ++ text_of y.now ++ codes ")")) }
+    ensures numbers { OnOk result (HasNumbers x.now × HasNumbers y.now) }
 {
     push_two(text, "(", x, sign, y, ")")
 }
@@ -112,7 +121,8 @@ fn push_flags(
     p: &Term,
     cy: &Term,
 ) -> Result<(), Memory>
-    ensures { OnOk result (text.new.items ≡ text.old.items ++ text_of (Psw s.now z.now ac.now p.now cy.now)) }
+    ensures text { OnOk result (text.new.items ≡ text.old.items ++ text_of (Psw s.now z.now ac.now p.now cy.now)) }
+    ensures numbers { OnOk result (HasNumbers (Psw s.now z.now ac.now p.now cy.now)) }
 {
     push_two(text, "psw(", s, ",", z, ",")?;
     push_two(text, "", ac, ",", p, ",")?;
@@ -123,7 +133,8 @@ fn push_flags(
 /// Adds a bit of a term.
 #[cycle(printing)]
 fn push_bit(text: &mut Vec<u8>, k: u8, x: &Term) -> Result<(), Memory>
-    ensures { OnOk result (text.new.items ≡ text.old.items ++ text_of (Bit k x.now)) }
+    ensures text { OnOk result (text.new.items ≡ text.old.items ++ text_of (Bit k x.now)) }
+    ensures numbers { OnOk result (HasNumbers (Bit k x.now)) }
 {
     push_numbered(text, "bit(", u32::from(k), ",")?;
     push_part(text, "", x, ")")?;
@@ -140,8 +151,9 @@ fn push_quantifier(
     last: &Term,
     part: &Term,
 ) -> Result<(), Memory>
-    ensures { OnOk result (text.new.items ≡ text.old.items ++ (front.now ++ decimal k ++ codes ": " ++ text_of first.now
+    ensures text { OnOk result (text.new.items ≡ text.old.items ++ (front.now ++ decimal k ++ codes ": " ++ text_of first.now
         ++ codes ".." ++ text_of last.now ++ codes ", " ++ text_of part.now ++ codes ")")) }
+    ensures numbers { OnOk result ((k ≤ 4294967295) × HasNumbers first.now × HasNumbers last.now × HasNumbers part.now) }
 {
     push_numbered(text, front, k, ": ")?;
     push_two(text, "", first, "..", last, ", ")?;
@@ -152,7 +164,8 @@ fn push_quantifier(
 /// Adds a node with its parts.
 #[cycle(printing)]
 fn push_kind(text: &mut Vec<u8>, kind: &Kind) -> Result<(), Memory>
-    ensures { OnOk result (text.new.items ≡ text.old.items ++ text_of (tree_of kind.now)) }
+    ensures text { OnOk result (text.new.items ≡ text.old.items ++ text_of (tree_of kind.now)) }
+    ensures numbers { OnOk result (HasNumbers (tree_of kind.now)) }
 {
     match kind {
         Kind::Literal(n) => push_literal(text, *n),
@@ -195,9 +208,12 @@ fn push_kind(text: &mut Vec<u8>, kind: &Kind) -> Result<(), Memory>
     }
 }
 
-/// The text of a term, as `(a~ + 1)`, `element(mem,[c])`, `for_all(i1: 0..3, (i1 = a))`. Each term has one.
+/// The text of a term, as `(a~ + 1)`, `element(mem,[c])`, `for_all(i1: 0..3, (i1 = a))`. Each term has one, and it stands
+/// for the term if that is closed and of depth 2,000 at most.
+#[tactic(auto, using(crate::proofs::PrintedLemmas::print_stands))]
 pub fn print(alloc: Global, t: &Term) -> Result<Vec<u8>, Memory>
-    ensures { IfOk result (λ text. text.items ≡ text_of t.now) }
+    ensures text { IfOk result (λ text. text.items ≡ text_of t.now) }
+    ensures readable { IfOk result (λ text. IsTerm t.now → IsClosed t.now → depth_of t.now ≤ 2000 → StandsFor text.items t.now) }
 {
     let mut text = Vec::new(alloc);
     push_kind(&mut text, t.kind())?;
