@@ -4,8 +4,10 @@
 
 mod breadth;
 mod cycles;
+mod rules;
 mod stack;
 
 pub use breadth::{Reached, least_walks};
 pub use cycles::uncut;
+pub use rules::Rule;
 pub use stack::{Levels, effect, find_levels};

@@ -1,0 +1,81 @@
+-- Which of the rules that look at one instruction alone an instruction breaks.
+use Rattle.std.specs.Prelude.{◌≡◌, ◌<◌, ◌≤◌, ◌+◌, ℕ, Bool, true, false, not, ◌&&◌, ◌||◌, nat_eq, List, [], ◌∷◌, Option, None, Some, slice_get, length}
+use Rattle.std.specs.List.{list_any}
+use Rattle.std.specs.FinMap as maps
+use Rattle.sp_base.specs.Image.{ImageMap}
+use Rattle.sp_base.specs.declared.pair.Pair.{Pair}
+use Rattle.sp_base.specs.declared.pair.Pair.TheVariants as pair
+use Rattle.sp_isa.specs.declared.instr.Instr.{Instr}
+use Rattle.sp_graph.specs.Control.{control_of}
+use Rattle.sp_graph.specs.Routines.{callee_at}
+use Rattle.sp_graph.specs.Structure.{jump_target, call_target, ends, returns, is_computed, moves_pointer, loaded_pointer, stored}
+use Rattle.sp_graph.specs.Successors.{place_of, routine_at}
+use Rattle.sp_graph.specs.declared.control.Control.{Control}
+use Rattle.sp_prog.specs.declared.routine.Routine.{Routine}
+use Rattle.sp_prog.specs.declared.routine.Stmt.{Stmt}
+use Rattle.sp_prog.specs.Program.{Program}
+use Rattle.sp_struct.specs.declared.rules.Rule.{Rule}
+use Rattle.sp_struct.specs.declared.rules.Rule.TheVariants.{JumpOut, FallsOff, CallOut, Computed, StackPointer, ReturnInStart, CodeWritten}
+
+abbrev pub is_pointer : Pair → Bool
+is_pointer pair.Sp = true
+is_pointer _ = false
+
+abbrev pub is_missing : Option ℕ → Bool
+is_missing None = true
+is_missing (Some place) = false
+
+abbrev pub jump_misses : List Stmt → Option ℕ → Bool
+jump_misses code None = false
+jump_misses code (Some address) = is_missing (place_of code address)
+
+-- what is called is no routine, or a start routine
+abbrev pub is_no_callee : Option Routine → Bool
+is_no_callee None = true
+is_no_callee (Some callee) = callee.start
+
+abbrev pub call_misses : List Routine → Option ℕ → Bool
+call_misses routines None = false
+call_misses routines (Some address) = is_no_callee (callee_at routines (routine_at routines address))
+
+-- SP is loaded, other than first in a start routine
+abbrev pub loads_elsewhere : Bool → Option ℕ → Bool
+loads_elsewhere first None = false
+loads_elsewhere first (Some word) = not first
+
+-- SP isn't loaded with this word
+abbrev pub loads_other : ℕ → Option ℕ → Bool
+loads_other base None = true
+loads_other base (Some word) = not (nat_eq word base)
+
+abbrev pub is_entry : Option ℕ → Bool
+is_entry None = false
+is_entry (Some place) = nat_eq place 0
+
+abbrev pub jumps_to_entry : List Stmt → Option ℕ → Bool
+jumps_to_entry code None = false
+jumps_to_entry code (Some address) = is_entry (place_of code address)
+
+abbrev pub misuses_pointer : Program → Routine → ℕ → Stmt → Bool
+misuses_pointer p routine k s =
+    moves_pointer s.instr
+    || loads_elsewhere (routine.start && nat_eq k 0) (loaded_pointer s.instr)
+    || (routine.start && nat_eq k 0 && loads_other (p.last + 1) (loaded_pointer s.instr))
+    || (routine.start && jumps_to_entry routine.code (jump_target (control_of s.instr)))
+
+abbrev pub is_byte : Option ℕ → Bool
+is_byte None = false
+is_byte (Some byte) = true
+
+abbrev pub writes_code : ImageMap → Instr → Bool
+writes_code image i = list_any (λ cell. is_byte (maps.get image cell)) (stored i)
+
+-- whether an instruction breaks a rule
+abbrev pub breaks : Rule → Program → Routine → ℕ → Stmt → Bool
+breaks JumpOut p routine k s = jump_misses routine.code (jump_target (control_of s.instr))
+breaks FallsOff p routine k s = nat_eq (k + 1) (length routine.code) && not (ends (control_of s.instr))
+breaks CallOut p routine k s = call_misses p.routines (call_target (control_of s.instr))
+breaks Computed p routine k s = is_computed s.instr
+breaks StackPointer p routine k s = misuses_pointer p routine k s
+breaks ReturnInStart p routine k s = routine.start && returns (control_of s.instr)
+breaks CodeWritten p routine k s = writes_code p.image s.instr
