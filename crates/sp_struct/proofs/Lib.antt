@@ -1,4 +1,5 @@
 pub mod BreadthLemmas
 pub mod DepthLemmas
 pub mod LeastLemmas
+pub mod LowestLemmas
 pub mod OrderLemmas

@@ -4,10 +4,12 @@
 
 mod breadth;
 mod cycles;
+mod finding;
 mod rules;
 mod stack;
 
 pub use breadth::{Reached, least_walks};
 pub use cycles::uncut;
+pub use finding::lowest;
 pub use rules::Rule;
 pub use stack::{Levels, effect, find_levels};

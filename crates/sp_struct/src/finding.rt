@@ -1,0 +1,92 @@
+ghost use Rattle.std.specs.Prelude.{◌≡◌, ◌<◌, ◌+◌, Some, length, map, slice_get};
+ghost use Rattle.std.specs.List.Sorted.{IsStrictlyIncreasing};
+ghost use Rattle.sp_prog.specs.Rules.{AreLaidOut, address_of};
+ghost use Rattle.sp_prog.specs.declared.routine.Stmt.{Stmt};
+ghost use Rattle.sp_struct.specs.code.Lowest.{lower, Breaks, LowestSoFar, IsLowest};
+ghost use Rattle.sp_struct.specs.code.Rules.{breaks, misuses_pointer};
+
+use crate::rules::{
+    Rule, call_misses, call_target, ends, is_computed, jump_misses, jump_target, jumps_to_entry,
+    loaded_pointer, loads_elsewhere, loads_other, moves_pointer, returns, writes_code,
+};
+use sp_base::Line;
+use sp_graph::control_of;
+use sp_prog::{Routine, Stmt, Unit};
+
+/// Whether an instruction breaks the rule on SP.
+fn misuses_pointer(unit: &Unit, routine: &Routine, at: usize, stmt: &Stmt) -> bool
+    requires { AreLaidOut (address_of routine.now) routine.now.code }
+    ensures { result ≡ misuses_pointer unit.now routine.now at stmt.now }
+{
+    let entry = routine.start && at == 0;
+    let loaded = loaded_pointer(&stmt.instr);
+    moves_pointer(&stmt.instr)
+        || loads_elsewhere(entry, loaded)
+        || (entry && loads_other(unit.last + 1, loaded))
+        || (routine.start
+            && jumps_to_entry(routine.code.as_slice(), jump_target(control_of(&stmt.instr))))
+}
+
+/// Whether an instruction breaks a rule.
+fn breaks(unit: &Unit, rule: Rule, routine: &Routine, at: usize, stmt: &Stmt) -> bool
+    requires laid_out { AreLaidOut (address_of routine.now) routine.now.code }
+    requires at { at < length routine.now.code }
+    ensures { result ≡ breaks rule unit.now routine.now at stmt.now }
+{
+    let code = routine.code.as_slice();
+    let control = control_of(&stmt.instr);
+    match rule {
+        Rule::JumpOut => jump_misses(code, jump_target(control)),
+        Rule::FallsOff => at + 1 == code.len() && !ends(control),
+        Rule::CallOut => call_misses(unit.routines.as_slice(), call_target(control)),
+        Rule::Computed => is_computed(&stmt.instr),
+        Rule::StackPointer => misuses_pointer(unit, routine, at, stmt),
+        Rule::ReturnInStart => routine.start && returns(control),
+        Rule::CodeWritten => writes_code(&unit.image, &stmt.instr),
+    }
+}
+
+/// The lower one of the lines.
+fn lower(best: Option<Line>, line: Line) -> Option<Line>
+    ensures { result ≡ lower best line }
+{
+    match best {
+        Some(found) => {
+            if line.0 < found.0 {
+                Some(line)
+            } else {
+                Some(found)
+            }
+        }
+        None => Some(line),
+    }
+}
+
+/// The lowest line on which an instruction of this routine, or of one before it, breaks a rule.
+fn lowest_in(unit: &Unit, rule: Rule, place: usize, so_far: Option<Line>) -> Option<Line>
+    requires place { place < length unit.now.routines }
+    requires so_far { LowestSoFar (Breaks unit.now rule) place 0 so_far }
+    ensures { LowestSoFar (Breaks unit.now rule) (place + 1) 0 result }
+{
+    let routine = &unit.routines.as_slice()[place];
+    let code = routine.code.as_slice();
+    let mut best = so_far;
+    'places: for at in 0..code.len() {
+        let stmt = &code[at];
+        if breaks(unit, rule, routine, at, stmt) {
+            best = lower(best, stmt.line);
+        }
+    }
+    best
+}
+
+/// The lowest line on which an instruction breaks a rule.
+pub fn lowest(unit: &Unit, rule: Rule) -> Option<Line>
+    ensures { IsLowest (Breaks unit.now rule) result }
+{
+    let mut best = None;
+    'routines: for place in 0..unit.routines.as_slice().len() {
+        best = lowest_in(unit, rule, place, best);
+    }
+    best
+}
