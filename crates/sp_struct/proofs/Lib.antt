@@ -3,3 +3,4 @@ pub mod DepthLemmas
 pub mod LeastLemmas
 pub mod LowestLemmas
 pub mod OrderLemmas
+pub mod RuleLemmas

@@ -2,7 +2,8 @@ ghost use Rattle.std.specs.Prelude.{◌≡◌, ◌<◌, ◌+◌, Some, length, m
 ghost use Rattle.std.specs.List.Sorted.{IsStrictlyIncreasing};
 ghost use Rattle.sp_prog.specs.Rules.{AreLaidOut, address_of};
 ghost use Rattle.sp_prog.specs.declared.routine.Stmt.{Stmt};
-ghost use Rattle.sp_struct.specs.code.Lowest.{lower, Breaks, LowestSoFar, IsLowest};
+ghost use Rattle.sp_struct.specs.Kinds.{IsBroken, IsLowestLine};
+ghost use Rattle.sp_struct.specs.code.Lowest.{lower, Breaks, LowestSoFar};
 ghost use Rattle.sp_struct.specs.code.Rules.{breaks, misuses_pointer};
 
 use crate::rules::{
@@ -82,7 +83,7 @@ fn lowest_in(unit: &Unit, rule: Rule, place: usize, so_far: Option<Line>) -> Opt
 
 /// The lowest line on which an instruction breaks a rule.
 pub fn lowest(unit: &Unit, rule: Rule) -> Option<Line>
-    ensures { IsLowest (Breaks unit.now rule) result }
+    ensures { IsLowestLine (IsBroken unit.now rule) result }
 {
     let mut best = None;
     'routines: for place in 0..unit.routines.as_slice().len() {

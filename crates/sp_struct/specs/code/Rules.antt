@@ -59,9 +59,9 @@ jumps_to_entry code (Some address) = is_entry (place_of code address)
 abbrev pub misuses_pointer : Program → Routine → ℕ → Stmt → Bool
 misuses_pointer p routine k s =
     moves_pointer s.instr
-    || loads_elsewhere (routine.start && nat_eq k 0) (loaded_pointer s.instr)
-    || (routine.start && nat_eq k 0 && loads_other (p.last + 1) (loaded_pointer s.instr))
-    || (routine.start && jumps_to_entry routine.code (jump_target (control_of s.instr)))
+    || (loads_elsewhere (routine.start && nat_eq k 0) (loaded_pointer s.instr)
+    || (((routine.start && nat_eq k 0) && loads_other (p.last + 1) (loaded_pointer s.instr))
+    || (routine.start && jumps_to_entry routine.code (jump_target (control_of s.instr)))))
 
 abbrev pub is_byte : Option ℕ → Bool
 is_byte None = false
