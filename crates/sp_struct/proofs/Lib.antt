@@ -1,6 +1,7 @@
 pub mod BreadthLemmas
 pub mod DepthLemmas
 pub mod LeastLemmas
+pub mod LevelLemmas
 pub mod LowestLemmas
 pub mod OrderLemmas
 pub mod RuleLemmas

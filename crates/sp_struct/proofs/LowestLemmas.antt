@@ -1,5 +1,5 @@
 -- The lowest of lines, one by one.
-use Rattle.std.proofs.Common.{◌≡◌, ◌<◌, ◌≤◌, ◌+◌, ℕ, ◌⊎◌, inl, inr, arith, Bool, true, false, Option, None, Some, List, slice_get, length, refl, sym, ap, ◌∙◌, if◌then◌else◌}
+use Rattle.std.proofs.Common.{◌≡◌, ◌<◌, ◌≤◌, ◌+◌, ℕ, ◌⊎◌, inl, inr, arith, Bool, true, false, Option, None, Some, slice_get, length, refl, sym, ap, ◌∙◌, if◌then◌else◌}
 use Rattle.std.specs.Prelude.{nat_lt}
 use Rattle.std.proofs.lemmas.Bool.{cases_order, lt-ltb, ltb-true}
 use Rattle.std.proofs.lemmas.Option.{slice_get_within}
@@ -16,12 +16,14 @@ chosen : (best line : Line) (b : Bool) → nat_lt line.0 best.0 ≡ b →
     (c : Line) × ((if b then Some line else Some best) ≡ Some c) × (c.0 ≤ line.0) × (c.0 ≤ best.0) × ((c ≡ line) ⊎ (c ≡ best))
 chosen best line true e = (line, refl, omega arith, (let l = ltb-true line.0 best.0 e in omega arith), inl refl)
 chosen best line false e = (
-  best, refl,
+  best,
+  refl,
   (elim (cases_order line.0 best.0) as (λ o. best.0 ≤ line.0) [
     | inl same ↦ omega (arith, same)
     | inr o ↦ elim o as (λ o. best.0 ≤ line.0) [ inl l ↦ (let t = lt-ltb line.0 best.0 l in cc (t, e)) | inr l ↦ omega arith ]
   ]),
-  omega arith, inr refl,
+  omega arith,
+  inr refl,
 )
 
 -- the lower one is at most the new line and the best before, and one of them
@@ -29,9 +31,13 @@ lower_is : (best : Option Line) (line : Line) → (c : Line) × (lower best line
     × ((old : Line) → best ≡ Some old → c.0 ≤ old.0) × ((c ≡ line) ⊎ (best ≡ Some c))
 lower_is None line = (line, refl, omega arith, (λ old e. absurd cc), inl refl)
 lower_is (Some best) line =
-    let c = chosen best line (nat_lt line.0 best.0) refl in
-    (c.0, c.1, c.2, (λ old e. let same : best ≡ old = cc in rw (← same) c.3),
-    (elim c.4 as (λ o. (c.0 ≡ line) ⊎ (Some best ≡ Some c.0)) [ inl e ↦ inl e | inr e ↦ inr (ap (λ x. Some x) (sym e)) ]))
+    let c = chosen best line (nat_lt line.0 best.0) refl in (
+      c.0,
+      c.1,
+      c.2,
+      (λ old e. let same : best ≡ old = cc in rw (← same) c.3),
+      (elim c.4 as (λ o. (c.0 ≡ line) ⊎ (Some best ≡ Some c.0)) [ inl e ↦ inl e | inr e ↦ inr (ap (λ x. Some x) (sym e)) ]),
+    )
 
 module _ (P : ℕ → ℕ → ℕ → Type 0) where
   pub none_so_far : LowestSoFar P 0 0 None
@@ -49,11 +55,14 @@ module _ (P : ℕ → ℕ → ℕ → Type 0) where
                 | inl is ↦ (r, k, rw (← same, is) here)
                 | inr old ↦ so_far.found found (old ∙ ap (λ x. Some x) same)
               ];
-          least = λ i j other h b.
-              (c.0, c.1, (elim (cases_now i j b) as (λ o. c.0.0 ≤ other) [
-                | inl before ↦ let old = so_far.least i j other h before in let low = c.3 old.0 old.1 in let l = old.2 in omega (arith, low, l)
-                | inr now ↦ let is = only other (rw (← now.0, ← now.1) h) in let low = c.2 in omega (arith, is, low)
-              ]));
+          least = λ i j other h b. (
+            c.0,
+            c.1,
+            (elim (cases_now i j b) as (λ o. c.0.0 ≤ other) [
+              | inl before ↦ let old = so_far.least i j other h before in let low = c.3 old.0 old.1 in let l = old.2 in omega (arith, low, l)
+              | inr now ↦ let is = only other (rw (← now.0, ← now.1) h) in let low = c.2 in omega (arith, is, low)
+            ]),
+          );
         }
       where
         cases_now : (i j : ℕ) → ComesBefore i j r (k + 1) → ComesBefore i j r k ⊎ ((i ≡ r) × (j ≡ k))

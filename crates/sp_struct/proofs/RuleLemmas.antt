@@ -1,7 +1,6 @@
 -- What the tests of the rules say.
-use Rattle.std.proofs.Common.{◌≡◌, ◌≢◌, ◌<◌, ◌+◌, ℕ, ◌⊎◌, inl, inr, arith, Bool, true, false, List, [], ◌∷◌, Option, None, Some, slice_get, length, get_or, refl, sym, ap, ◌∙◌}
+use Rattle.std.proofs.Common.{◌≡◌, ◌≢◌, ◌<◌, ◌+◌, ℕ, ◌⊎◌, inl, inr, arith, Bool, true, false, List, [], ◌∷◌, Option, None, Some, slice_get, length, get_or, refl, ap, ◌∙◌}
 use Rattle.std.specs.Prelude.{not, ◌&&◌, ◌||◌, nat_eq, Contains}
-use Rattle.std.specs.List.{list_any, position}
 use Rattle.std.specs.FinMap as maps
 use Rattle.std.proofs.lemmas.Bool.{eqb-true, eq-eqb}
 use Rattle.std.proofs.lemmas.List.Quantifiers.{position-Some}
@@ -14,7 +13,7 @@ use Rattle.sp_base.specs.declared.line.Line.{Line}
 use Rattle.sp_isa.specs.declared.instr.Instr.{Instr}
 use Rattle.sp_graph.specs.Control.{control_of}
 use Rattle.sp_graph.specs.Routines.{callee_at}
-use Rattle.sp_graph.specs.Structure.{IsAt, IsNoCallee, MisusesPointer, jump_target, call_target, ends, returns, is_computed, moves_pointer, loaded_pointer, stored}
+use Rattle.sp_graph.specs.Structure.{IsNoCallee, MisusesPointer, jump_target, call_target, ends, returns, moves_pointer, loaded_pointer, stored}
 use Rattle.sp_graph.specs.Successors.{place_of, routine_at}
 use Rattle.sp_prog.specs.declared.routine.Routine.{Routine}
 use Rattle.sp_prog.specs.declared.routine.Stmt.{Stmt}
@@ -22,7 +21,7 @@ use Rattle.sp_prog.specs.Program.{Program}
 use Rattle.sp_prog.specs.Rules.{address_of}
 use Rattle.sp_struct.specs.Kinds.{IsBroken, IsLowestLine}
 use Rattle.sp_struct.specs.code.Lowest.{Breaks, IsLowest}
-use Rattle.sp_struct.specs.code.Rules.{is_missing, jump_misses, is_no_callee, call_misses, loads_elsewhere, loads_other, is_entry, jumps_to_entry, misuses_pointer, is_byte, writes_code, breaks}
+use Rattle.sp_struct.specs.code.Rules.{is_missing, jump_misses, is_no_callee, call_misses, loads_elsewhere, loads_other, is_entry, jumps_to_entry, misuses_pointer, is_byte, writes_code}
 use Rattle.sp_struct.specs.declared.rules.Rule.{Rule}
 use Rattle.sp_struct.specs.declared.rules.Rule.TheVariants as rule
 

@@ -25,7 +25,10 @@ fn misuses_pointer(unit: &Unit, routine: &Routine, at: usize, stmt: &Stmt) -> bo
         || loads_elsewhere(entry, loaded)
         || (entry && loads_other(unit.last + 1, loaded))
         || (routine.start
-            && jumps_to_entry(routine.code.as_slice(), jump_target(control_of(&stmt.instr))))
+            && jumps_to_entry(
+                routine.code.as_slice(),
+                jump_target(control_of(&stmt.instr)),
+            ))
 }
 
 /// Whether an instruction breaks a rule.

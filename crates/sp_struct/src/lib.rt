@@ -7,9 +7,11 @@ mod cycles;
 mod finding;
 mod rules;
 mod stack;
+mod unit_levels;
 
 pub use breadth::{Reached, least_walks};
 pub use cycles::uncut;
 pub use finding::lowest;
 pub use rules::Rule;
 pub use stack::{Levels, effect, find_levels};
+pub use unit_levels::all_levels;

@@ -1,5 +1,5 @@
 -- Which of the rules that look at one instruction alone an instruction breaks.
-use Rattle.std.specs.Prelude.{◌≡◌, ◌<◌, ◌≤◌, ◌+◌, ℕ, Bool, true, false, not, ◌&&◌, ◌||◌, nat_eq, List, [], ◌∷◌, Option, None, Some, slice_get, length}
+use Rattle.std.specs.Prelude.{◌+◌, ℕ, Bool, true, false, not, ◌&&◌, ◌||◌, nat_eq, List, Option, None, Some, length}
 use Rattle.std.specs.List.{list_any}
 use Rattle.std.specs.FinMap as maps
 use Rattle.sp_base.specs.Image.{ImageMap}
@@ -10,7 +10,6 @@ use Rattle.sp_graph.specs.Control.{control_of}
 use Rattle.sp_graph.specs.Routines.{callee_at}
 use Rattle.sp_graph.specs.Structure.{jump_target, call_target, ends, returns, is_computed, moves_pointer, loaded_pointer, stored}
 use Rattle.sp_graph.specs.Successors.{place_of, routine_at}
-use Rattle.sp_graph.specs.declared.control.Control.{Control}
 use Rattle.sp_prog.specs.declared.routine.Routine.{Routine}
 use Rattle.sp_prog.specs.declared.routine.Stmt.{Stmt}
 use Rattle.sp_prog.specs.Program.{Program}

@@ -1,4 +1,4 @@
-use Rattle.std.proofs.Common.{◌≡◌, ◌<◌, ◌≤◌, ◌∙◌, sym, ap, arith, length}
+use Rattle.std.proofs.Common.{◌≡◌, ap, arith, length}
 use Rattle.sp_prog.specs.declared.routine.Routine.{Routine}
 use Rattle.sp_prog.specs.Program.{Program}
 use Rattle.sp_struct.specs.code.Lowest.{Breaks}
