@@ -15,7 +15,7 @@ use Rattle.sp_cli.specs.Command.{Command}
 use Rattle.sp_cli.specs.Inputs.{Held}
 use Rattle.sp_cli.specs.Session.{AreWrites, FollowsReads}
 use Rattle.sp_cli.specs.Space.{HoldsFront, HoldsImage, ImageAfter, IsLastText, IsText, IsTextOf, SinkAfter, TookFront}
-use Rattle.sp_command_laws.specs.Ends.{FollowReads, KeepPromises, SayStatuses, WriteOnce}
+use Rattle.sp_command_laws.specs.Ends.{FollowReads, KeepPromises, MayStay, SayStatuses, WriteOnce}
 
 -- ---- Fronts
 
@@ -60,6 +60,22 @@ sink_after status.TooLong c held before after h = took_whole status.TooLong c he
 
 pub keep_promises : KeepPromises
 keep_promises = record { file = file_after; sink = sink_after }
+
+-- ---- What may stay
+
+file_stays : (s : Status) (c : Command) (held : Held) (file : Option (List ℕ)) → s ≢ status.Done → s ≢ status.SinkFault
+    → ImageAfter s c held file file
+file_stays status.Done c held file other also = absurd (other refl)
+file_stays status.SinkFault c held file other also = absurd (also refl)
+file_stays status.WriteFault c held file other also = inl refl
+file_stays status.Memory c held file other also = inl refl
+file_stays status.Refused c held file other also = refl
+file_stays status.Usage c held file other also = refl
+file_stays status.ReadFault c held file other also = refl
+file_stays status.TooLong c held file other also = refl
+
+pub may_stay : MayStay
+may_stay = record { file = file_stays; sink = λ c held output. inl refl }
 
 -- ---- Texts
 

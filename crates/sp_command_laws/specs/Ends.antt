@@ -23,6 +23,13 @@ pub record KeepPromises : Type 0 where
   pub sink : (s : Status) (c : Command) (held : Held) (before after : Output) → SinkAfter s c held before after
       → (after.taken ≡ before.taken) ⊎ ((text : List ℕ) × IsText c held text × TookFront before after text)
 
+-- a file may stay as it was, whatever it held, unless the command is done or its sink failed; a sink may take nothing where
+-- memory ran out
+pub record MayStay : Type 0 where
+  pub file : (s : Status) (c : Command) (held : Held) (file : Option (List ℕ)) → s ≢ status.Done → s ≢ status.SinkFault
+      → ImageAfter s c held file file
+  pub sink : (c : Command) (held : Held) (output : Output) → SinkAfter status.Memory c held output output
+
 -- the text of Done is the report of a command that accepts, that of Refused the line of the refusal that stands; no other
 -- status of these commands has a text
 pub record SayStatuses : Type 0 where

@@ -1,6 +1,6 @@
 //! What is said of commands, by example.
 ghost use Rattle.sp_command_laws.specs.Commands.{HaveForms, LimitFiles, NameFiles, OrderReads, OrderRefusals};
-ghost use Rattle.sp_command_laws.specs.Ends.{FollowReads, KeepPromises, SayStatuses, WriteOnce};
+ghost use Rattle.sp_command_laws.specs.Ends.{FollowReads, KeepPromises, MayStay, SayStatuses, WriteOnce};
 ghost use Rattle.sp_command_laws.specs.Sessions.{CallFiles};
 ghost use Rattle.sp_command_laws.specs.Texts.{NumberExits, PrintTexts};
 
@@ -63,4 +63,9 @@ pub fn images_are_written_once()
 /// The calls of a command on files, by how it ended.
 pub fn commands_call_files()
     ensures { CallFiles }
+{}
+
+/// An image file may stay as it was, unless the command is done or its sink failed.
+pub fn files_may_stay()
+    ensures { MayStay }
 {}
