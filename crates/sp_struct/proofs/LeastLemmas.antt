@@ -1,8 +1,11 @@
 -- The order of a search by levels is that of the least walks.
-use Rattle.std.proofs.Common.{◌≡◌, ◌≤◌, ◌<◌, ℕ, zero, suc, ◌⊎◌, inl, inr, arith, Bool, List, [], ◌∷◌, ◌++◌, sym, refl, ap, length, length-append, get_or}
+use Rattle.std.proofs.Common.{◌≡◌, ◌≤◌, ◌<◌, ℕ, zero, suc, ◌⊎◌, inl, inr, arith, Bool, List, [], ◌∷◌, ◌++◌, sym, refl, ap, ◌∙◌, length, length-append, get_or}
 use Rattle.std.proofs.lemmas.Bool.{cases_order}
-use Rattle.sp_graph.specs.Least.{WalkTo, Before, IsLeastWalk}
+use Rattle.sp_graph.specs.Least.{WalkTo, Before, Lower, IsLeastWalk}
 use Rattle.sp_graph.specs.Least.WalkTo.{entry, onward}
+use Rattle.std.specs.Prelude.{ℤ}
+use Rattle.sp_graph.specs.Depths.{HasDepth, depth_along}
+use Rattle.sp_prog.specs.declared.routine.Stmt.{Stmt}
 use Rattle.sp_struct.specs.code.Breadth.{Grown, Closed}
 use Rattle.sp_graph.specs.declared.graph.Node.{Node}
 use Rattle.sp_struct.proofs.OrderLemmas.{before_append, before_last, before_trans}
@@ -148,3 +151,22 @@ module _ (graph : List Node) (seen : List Bool) (order up : List ℕ) (head : �
         let same : i.0 ≡ k = same_place order g.once i.0 k i.1 l i.2 in
         rw same at i.3;
   }
+
+-- a list of addresses isn't lower than itself
+not_lower : (xs : List ℕ) → Lower xs xs → ⊥
+not_lower [] l = l
+not_lower (x ∷ xs) l = elim l as (λ o. ⊥) [ inl low ↦ absurd (omega arith) | inr rest ↦ not_lower xs rest.1 ]
+
+-- two least walks to an instruction are one
+one_least : (graph : List Node) (xs ys : List ℕ) (at : ℕ) → IsLeastWalk graph xs at → IsLeastWalk graph ys at → xs ≡ ys
+one_least graph xs ys at a b = elim (a.least ys b.walk) as (λ o. xs ≡ ys) [
+  | inl same ↦ same
+  | inr before ↦ elim (b.least xs a.walk) as (λ o. xs ≡ ys) [
+    | inl same ↦ sym same
+    | inr back ↦ absurd (elim (before_trans xs ys xs before back) as (λ o. ⊥) [ inl low ↦ absurd (omega arith) | inr same ↦ not_lower xs same.1 ])
+  ]
+]
+
+-- an instruction has one depth
+pub one_depth : (graph : List Node) (code : List Stmt) (at : ℕ) (d e : ℤ) → HasDepth graph code at d → HasDepth graph code at e → d ≡ e
+one_depth graph code at d e a b = a.2 ∙ ap (depth_along code) (one_least graph a.0 b.0 at a.1 b.1) ∙ sym b.2

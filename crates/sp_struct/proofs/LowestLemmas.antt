@@ -1,5 +1,5 @@
 -- The lowest of lines, one by one.
-use Rattle.std.proofs.Common.{◌≡◌, ◌<◌, ◌≤◌, ◌+◌, ℕ, ◌⊎◌, inl, inr, arith, Bool, true, false, Option, None, Some, slice_get, length, refl, sym, ap, ◌∙◌, if◌then◌else◌}
+use Rattle.std.proofs.Common.{◌≡◌, ◌<◌, ◌≤◌, ◌+◌, ℕ, ◌⊎◌, inl, inr, arith, Bool, true, false, Option, None, Some, List, slice_get, length, refl, sym, ap, ◌∙◌, if◌then◌else◌}
 use Rattle.std.specs.Prelude.{nat_lt}
 use Rattle.std.proofs.lemmas.Bool.{cases_order, lt-ltb, ltb-true}
 use Rattle.std.proofs.lemmas.Option.{slice_get_within}
@@ -11,6 +11,7 @@ use Rattle.sp_graph.specs.Structure.{IsAt}
 use Rattle.sp_struct.specs.code.Rules.{breaks}
 use Rattle.sp_struct.specs.code.Lowest.{lower, ComesBefore, LowestSoFar, IsLowest, Breaks}
 use Rattle.sp_struct.specs.declared.rules.Rule.{Rule}
+use Rattle.sp_struct.specs.declared.stack.Levels.{Levels}
 
 chosen : (best line : Line) (b : Bool) → nat_lt line.0 best.0 ≡ b →
     (c : Line) × ((if b then Some line else Some best) ≡ Some c) × (c.0 ≤ line.0) × (c.0 ≤ best.0) × ((c ≡ line) ⊎ (c ≡ best))
@@ -114,28 +115,29 @@ same_at p r k a b s t x y =
     let other : slice_get b.code k ≡ Some s = rw (← routines) x.within in
     (routines, let n = y.within in cc (other, n))
 
-module _ (p : Program) (rule : Rule) (r k : ℕ) (routine : Routine) (s : Stmt) (at : IsAt p r k routine s) where
-  is_here : (other : ℕ) → Breaks p rule r k other → (other ≡ s.line.0) × (breaks rule p routine k s ≡ true)
+module _ (p : Program) (all : List Levels) (rule : Rule) (r k : ℕ) (routine : Routine) (s : Stmt) (l : Levels) (at : IsAt p r k routine s) (there : slice_get all r ≡ Some l) where
+  is_here : (other : ℕ) → Breaks p all rule r k other → (other ≡ s.line.0) × (breaks rule p l.reached.items l.depths.items routine k s ≡ true)
   is_here other h =
-      let same = same_at p r k h.0 routine h.1 s h.2 at in
-      (sym h.3 ∙ ap (λ (x : Stmt). x.line.0) same.1, rw (← same.0, ← same.1) h.4)
+      let same = same_at p r k h.0 routine h.1 s h.3 at in
+      let levels : h.2 ≡ l = let m = h.4 in cc (m, there) in
+      (sym h.5 ∙ ap (λ (x : Stmt). x.line.0) same.1, rw (← same.0, ← same.1, ← levels) h.6)
 
-  pub broken_here : (best : Option Line) → LowestSoFar (Breaks p rule) r k best → breaks rule p routine k s ≡ true →
-      LowestSoFar (Breaks p rule) r (k + 1) (lower best s.line)
+  pub broken_here : (best : Option Line) → LowestSoFar (Breaks p all rule) r k best → breaks rule p l.reached.items l.depths.items routine k s ≡ true →
+      LowestSoFar (Breaks p all rule) r (k + 1) (lower best s.line)
   broken_here best so_far b =
-      one_more (Breaks p rule) r k best so_far s.line (routine, s, at, refl, b) (λ other h. (is_here other h).0)
+      one_more (Breaks p all rule) r k best so_far s.line (routine, s, l, at, there, refl, b) (λ other h. (is_here other h).0)
 
-  pub kept_here : (best : Option Line) → LowestSoFar (Breaks p rule) r k best → breaks rule p routine k s ≡ false →
-      LowestSoFar (Breaks p rule) r (k + 1) best
+  pub kept_here : (best : Option Line) → LowestSoFar (Breaks p all rule) r k best → breaks rule p l.reached.items l.depths.items routine k s ≡ false →
+      LowestSoFar (Breaks p all rule) r (k + 1) best
   kept_here best so_far b =
-      none_more (Breaks p rule) r k best so_far (λ other h. let t = (is_here other h).1 in cc (t, b))
+      none_more (Breaks p all rule) r k best so_far (λ other h. let t = (is_here other h).1 in cc (t, b))
 
 -- what breaks a rule is an instruction of the routine, and of the unit
-pub within_routine : (p : Program) (rule : Rule) (r : ℕ) (routine : Routine) → slice_get p.routines r ≡ Some routine →
-    (j line : ℕ) → Breaks p rule r j line → j < length routine.code
-within_routine p rule r routine e j line h =
-    let same : h.0 ≡ routine = let m = h.2.among in cc (m, e) in
-    rw (← same) (slice_get_within h.0.code j h.1 h.2.within)
+pub within_routine : (p : Program) (all : List Levels) (rule : Rule) (r : ℕ) (routine : Routine) → slice_get p.routines r ≡ Some routine →
+    (j line : ℕ) → Breaks p all rule r j line → j < length routine.code
+within_routine p all rule r routine e j line h =
+    let same : h.0 ≡ routine = let m = h.3.among in cc (m, e) in
+    rw (← same) (slice_get_within h.0.code j h.1 h.3.within)
 
-pub within_unit : (p : Program) (rule : Rule) (i j line : ℕ) → Breaks p rule i j line → i < length p.routines
-within_unit p rule i j line h = slice_get_within p.routines i h.0 h.2.among
+pub within_unit : (p : Program) (all : List Levels) (rule : Rule) (i j line : ℕ) → Breaks p all rule i j line → i < length p.routines
+within_unit p all rule i j line h = slice_get_within p.routines i h.0 h.3.among

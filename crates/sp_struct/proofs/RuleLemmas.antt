@@ -19,6 +19,16 @@ use Rattle.sp_prog.specs.declared.routine.Routine.{Routine}
 use Rattle.sp_prog.specs.declared.routine.Stmt.{Stmt}
 use Rattle.sp_prog.specs.Program.{Program}
 use Rattle.sp_prog.specs.Rules.{address_of}
+use Rattle.sp_graph.specs.Routines.{graph_of}
+use Rattle.sp_graph.specs.Structure.{IsAt, takes_word}
+use Rattle.std.specs.Prelude.{ℤ, pos, ◌<ℤ◌, int_lt}
+use Rattle.std.proofs.Common.{tests}
+use Rattle.std.proofs.lemmas.Int.{ints}
+use Rattle.std.proofs.lemmas.Option.{slice_get_within}
+use Rattle.sp_struct.specs.code.Depths.{depth_at, is_seen}
+use Rattle.sp_struct.specs.code.Levels.{AreLevels}
+use Rattle.sp_struct.specs.declared.stack.Levels.{Levels}
+use Rattle.sp_struct.proofs.LeastLemmas.{one_depth}
 use Rattle.sp_struct.specs.Kinds.{IsBroken, IsLowestLine}
 use Rattle.sp_struct.specs.code.Lowest.{Breaks, IsLowest}
 use Rattle.sp_struct.specs.code.Rules.{is_missing, jump_misses, is_no_callee, call_misses, loads_elsewhere, loads_other, is_entry, jumps_to_entry, misuses_pointer, is_byte, writes_code}
@@ -190,31 +200,71 @@ write_back image i cell byte h e =
     let at = at_from_Contains (stored i) cell h in
     list_any_at (λ c. is_byte (maps.get image c)) (stored i) at.0 cell at.1 (rw (at.2 cell, e) refl)
 
+-- ---- Depths
+
+seen_by : (b : Bool) → (b ≡ false → ⊥) → b ≡ true
+seen_by true n = refl
+seen_by false n = absurd (n refl)
+
+below : (x y : ℤ) → int_lt x y ≡ true → x <ℤ y
+below x y e = grind (arith, ints, tests)
+
+above : (x y : ℤ) → x <ℤ y → int_lt x y ≡ true
+above x y e = grind (arith, ints, tests)
+
 -- ---- Each rule
 
-module _ (p : Program) where
-  pub tells : (rule : Rule) (r k line : ℕ) → Breaks p rule r k line → IsBroken p rule line
-  tells rule.JumpOut r k line (routine, s, at, l, b) = (r, k, routine, s, at, l, jump_out routine.code (jump_target (control_of s.instr)) b)
-  tells rule.FallsOff r k line (routine, s, at, l, b) =
+module _ (p : Program) (all : List Levels) (levels : AreLevels p all) where
+  levels_at : (r : ℕ) → r < length all → (v : Levels) × (slice_get all r ≡ Some v)
+  levels_at r l = at_place all r l
+    where
+      at_place : (xs : List Levels) (r : ℕ) → r < length xs → (v : Levels) × (slice_get xs r ≡ Some v)
+      at_place [] r l = absurd (omega arith)
+      at_place (x ∷ xs) r l = (get_or (x ∷ xs) r x, slice_get-get_or (x ∷ xs) r x l)
+
+  levels_of : {r k : ℕ} {routine : Routine} {s : Stmt} → IsAt p r k routine s → (v : Levels) × (slice_get all r ≡ Some v)
+  levels_of {r} {k} {routine} at =
+      levels_at r (let size = levels.size in let low = slice_get_within p.routines r routine at.among in omega (arith, size, low))
+
+  pub tells : (rule : Rule) (r k line : ℕ) → Breaks p all rule r k line → IsBroken p rule line
+  tells rule.JumpOut r k line (routine, s, v, at, there, l, b) = (r, k, routine, s, at, l, jump_out routine.code (jump_target (control_of s.instr)) b)
+  tells rule.FallsOff r k line (routine, s, v, at, there, l, b) =
       let parts = both (nat_eq (k + 1) (length routine.code)) (not (ends (control_of s.instr))) b in
       (r, k, routine, s, at, l, (eqb-true (k + 1) (length routine.code) parts.0, falls (ends (control_of s.instr)) parts.1))
-  tells rule.CallOut r k line (routine, s, at, l, b) = (r, k, routine, s, at, l, call_out p (call_target (control_of s.instr)) b)
-  tells rule.Computed r k line (routine, s, at, l, b) = (r, k, routine, s, at, l, b)
-  tells rule.StackPointer r k line (routine, s, at, l, b) = (r, k, routine, s, at, l, pointer p routine k s b)
-  tells rule.ReturnInStart r k line (routine, s, at, l, b) = (r, k, routine, s, at, l, both routine.start (returns (control_of s.instr)) b)
-  tells rule.CodeWritten r k line (routine, s, at, l, b) = (r, k, routine, s, at, l, write_out p.image s.instr b)
+  tells rule.CallOut r k line (routine, s, v, at, there, l, b) = (r, k, routine, s, at, l, call_out p (call_target (control_of s.instr)) b)
+  tells rule.Computed r k line (routine, s, v, at, there, l, b) = (r, k, routine, s, at, l, b)
+  tells rule.StackPointer r k line (routine, s, v, at, there, l, b) = (r, k, routine, s, at, l, pointer p routine k s b)
+  tells rule.Unreached r k line (routine, s, v, at, there, l, b) =
+      (r, k, routine, s, at, l, (levels.each r routine v at.among there).none k (falls (is_seen v.reached.items k) b))
+  tells rule.PopsReturn r k line (routine, s, v, at, there, l, b) =
+      let parts = both (is_seen v.reached.items k) (takes_word s.instr && int_lt (depth_at v.depths.items k) (pos 2)) b in
+      let takes = both (takes_word s.instr) (int_lt (depth_at v.depths.items k) (pos 2)) parts.1 in
+      (r, k, routine, s, at, l, (takes.0, (depth_at v.depths.items k, (levels.each r routine v at.among there).some k parts.0, below (depth_at v.depths.items k) (pos 2) takes.1)))
+  tells rule.ReturnInStart r k line (routine, s, v, at, there, l, b) = (r, k, routine, s, at, l, both routine.start (returns (control_of s.instr)) b)
+  tells rule.CodeWritten r k line (routine, s, v, at, there, l, b) = (r, k, routine, s, at, l, write_out p.image s.instr b)
 
-  pub told : (rule : Rule) (line : ℕ) → IsBroken p rule line → (r : ℕ) × (k : ℕ) × Breaks p rule r k line
-  told rule.JumpOut line (r, k, routine, s, at, l, (a, e, n)) = (r, k, (routine, s, at, l, jump_out_back routine.code (jump_target (control_of s.instr)) a e n))
+  pub told : (rule : Rule) (line : ℕ) → IsBroken p rule line → (r : ℕ) × (k : ℕ) × Breaks p all rule r k line
+  told rule.JumpOut line (r, k, routine, s, at, l, (a, e, n)) = (r, k, (routine, s, (levels_of at).0, at, (levels_of at).1, l, jump_out_back routine.code (jump_target (control_of s.instr)) a e n))
   told rule.FallsOff line (r, k, routine, s, at, l, (e, n)) =
-      (r, k, (routine, s, at, l, join (nat_eq (k + 1) (length routine.code)) (not (ends (control_of s.instr))) (eq-eqb (k + 1) (length routine.code) e) (lifts (ends (control_of s.instr)) n)))
-  told rule.CallOut line (r, k, routine, s, at, l, (a, e, n)) = (r, k, (routine, s, at, l, call_out_back p (call_target (control_of s.instr)) a e n))
-  told rule.Computed line (r, k, routine, s, at, l, b) = (r, k, (routine, s, at, l, b))
-  told rule.StackPointer line (r, k, routine, s, at, l, m) = (r, k, (routine, s, at, l, pointer_back p routine k s m))
-  told rule.ReturnInStart line (r, k, routine, s, at, l, (e, n)) = (r, k, (routine, s, at, l, join routine.start (returns (control_of s.instr)) e n))
-  told rule.CodeWritten line (r, k, routine, s, at, l, (cell, byte, c, e)) = (r, k, (routine, s, at, l, write_back p.image s.instr cell byte c e))
+      (r, k, (routine, s, (levels_of at).0, at, (levels_of at).1, l, join (nat_eq (k + 1) (length routine.code)) (not (ends (control_of s.instr))) (eq-eqb (k + 1) (length routine.code) e) (lifts (ends (control_of s.instr)) n)))
+  told rule.CallOut line (r, k, routine, s, at, l, (a, e, n)) = (r, k, (routine, s, (levels_of at).0, at, (levels_of at).1, l, call_out_back p (call_target (control_of s.instr)) a e n))
+  told rule.Computed line (r, k, routine, s, at, l, b) = (r, k, (routine, s, (levels_of at).0, at, (levels_of at).1, l, b))
+  told rule.StackPointer line (r, k, routine, s, at, l, m) = (r, k, (routine, s, (levels_of at).0, at, (levels_of at).1, l, pointer_back p routine k s m))
+  told rule.Unreached line (r, k, routine, s, at, l, none) =
+      let v = levels_of at in
+      (r, k, (routine, s, v.0, at, v.1, l, lifts (is_seen v.0.reached.items k) (truth (is_seen v.0.reached.items k)
+      (λ t. let d = (levels.each r routine v.0 at.among v.1).some k t in none d.0 d.1.walk))))
+  told rule.PopsReturn line (r, k, routine, s, at, l, (takes, (depth, d, low))) =
+      let v = levels_of at in
+      let t = levels.each r routine v.0 at.among v.1 in
+      let seen : is_seen v.0.reached.items k ≡ true = seen_by (is_seen v.0.reached.items k) (λ f. t.none k f d.0 d.1.walk) in
+      let same : depth_at v.0.depths.items k ≡ depth = one_depth (graph_of p r) routine.code k (depth_at v.0.depths.items k) depth (t.some k seen) d in
+      (r, k, (routine, s, v.0, at, v.1, l, join (is_seen v.0.reached.items k) (takes_word s.instr && int_lt (depth_at v.0.depths.items k) (pos 2)) seen
+      (join (takes_word s.instr) (int_lt (depth_at v.0.depths.items k) (pos 2)) takes (rw same (above depth (pos 2) low)))))
+  told rule.ReturnInStart line (r, k, routine, s, at, l, (e, n)) = (r, k, (routine, s, (levels_of at).0, at, (levels_of at).1, l, join routine.start (returns (control_of s.instr)) e n))
+  told rule.CodeWritten line (r, k, routine, s, at, l, (cell, byte, c, e)) = (r, k, (routine, s, (levels_of at).0, at, (levels_of at).1, l, write_back p.image s.instr cell byte c e))
 
-  pub lowest_line : (rule : Rule) (best : Option Line) → IsLowest (Breaks p rule) best → IsLowestLine (IsBroken p rule) best
+  pub lowest_line : (rule : Rule) (best : Option Line) → IsLowest (Breaks p all rule) best → IsLowestLine (IsBroken p rule) best
   lowest_line rule best h = record {
     found = λ line e. let f = h.found line e in tells rule f.0 f.1 line.0 f.2;
     least = λ line b. let t = told rule line b in h.least t.0 t.1 line t.2;

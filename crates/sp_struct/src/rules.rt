@@ -1,6 +1,6 @@
 ghost use Rattle.std.specs.Prelude.{◌≡◌, map};
 ghost use Rattle.std.specs.List.Sorted.{IsStrictlyIncreasing};
-ghost use Rattle.sp_graph.specs.Structure.{jump_target, call_target, ends, returns, is_computed, moves_pointer, loaded_pointer};
+ghost use Rattle.sp_graph.specs.Structure.{jump_target, call_target, ends, returns, is_computed, moves_pointer, loaded_pointer, takes_word};
 ghost use Rattle.sp_prog.specs.Rules.{AreLaidOut, address_of, first_address};
 ghost use Rattle.sp_struct.specs.code.Rules.{is_pointer, jump_misses, call_misses, loads_elsewhere, loads_other, jumps_to_entry, writes_code};
 
@@ -22,6 +22,10 @@ pub enum Rule {
     Computed,
     /// SP is loaded first in a start routine, with the end of the stack region, and never else.
     StackPointer,
+    /// A walk from the entry reaches each instruction.
+    Unreached,
+    /// POP and XTHL take no return address.
+    PopsReturn,
     /// A start routine doesn't return.
     ReturnInStart,
     /// No byte of the image is stored to.
@@ -104,6 +108,16 @@ pub fn jumps_to_entry(code: &[Stmt], target: Option<u16>) -> bool
             None => false,
         },
         None => false,
+    }
+}
+
+/// Whether an instruction takes a word from the stack.
+pub fn takes_word(instr: &Instr) -> bool
+    ensures { result ≡ takes_word instr.now }
+{
+    match *instr {
+        Instr::Pop(_) | Instr::Xthl => true,
+        _ => false,
     }
 }
 

@@ -1,5 +1,5 @@
 -- Which of the rules that look at one instruction alone an instruction breaks.
-use Rattle.std.specs.Prelude.{◌+◌, ℕ, Bool, true, false, not, ◌&&◌, ◌||◌, nat_eq, List, Option, None, Some, length}
+use Rattle.std.specs.Prelude.{◌+◌, ℕ, Bool, true, false, not, ◌&&◌, ◌||◌, nat_eq, List, Option, None, Some, length, ℤ, pos, int_lt}
 use Rattle.std.specs.List.{list_any}
 use Rattle.std.specs.FinMap as maps
 use Rattle.sp_base.specs.Image.{ImageMap}
@@ -8,13 +8,14 @@ use Rattle.sp_base.specs.declared.pair.Pair.TheVariants as pair
 use Rattle.sp_isa.specs.declared.instr.Instr.{Instr}
 use Rattle.sp_graph.specs.Control.{control_of}
 use Rattle.sp_graph.specs.Routines.{callee_at}
-use Rattle.sp_graph.specs.Structure.{jump_target, call_target, ends, returns, is_computed, moves_pointer, loaded_pointer, stored}
+use Rattle.sp_graph.specs.Structure.{jump_target, call_target, ends, returns, is_computed, moves_pointer, loaded_pointer, takes_word, stored}
 use Rattle.sp_graph.specs.Successors.{place_of, routine_at}
 use Rattle.sp_prog.specs.declared.routine.Routine.{Routine}
 use Rattle.sp_prog.specs.declared.routine.Stmt.{Stmt}
 use Rattle.sp_prog.specs.Program.{Program}
+use Rattle.sp_struct.specs.code.Depths.{depth_at, is_seen}
 use Rattle.sp_struct.specs.declared.rules.Rule.{Rule}
-use Rattle.sp_struct.specs.declared.rules.Rule.TheVariants.{JumpOut, FallsOff, CallOut, Computed, StackPointer, ReturnInStart, CodeWritten}
+use Rattle.sp_struct.specs.declared.rules.Rule.TheVariants.{JumpOut, FallsOff, CallOut, Computed, StackPointer, Unreached, PopsReturn, ReturnInStart, CodeWritten}
 
 abbrev pub is_pointer : Pair → Bool
 is_pointer pair.Sp = true
@@ -70,11 +71,13 @@ abbrev pub writes_code : ImageMap → Instr → Bool
 writes_code image i = list_any (λ cell. is_byte (maps.get image cell)) (stored i)
 
 -- whether an instruction breaks a rule
-abbrev pub breaks : Rule → Program → Routine → ℕ → Stmt → Bool
-breaks JumpOut p routine k s = jump_misses routine.code (jump_target (control_of s.instr))
-breaks FallsOff p routine k s = nat_eq (k + 1) (length routine.code) && not (ends (control_of s.instr))
-breaks CallOut p routine k s = call_misses p.routines (call_target (control_of s.instr))
-breaks Computed p routine k s = is_computed s.instr
-breaks StackPointer p routine k s = misuses_pointer p routine k s
-breaks ReturnInStart p routine k s = routine.start && returns (control_of s.instr)
-breaks CodeWritten p routine k s = writes_code p.image s.instr
+abbrev pub breaks : Rule → Program → List Bool → List ℤ → Routine → ℕ → Stmt → Bool
+breaks JumpOut p seen depths routine k s = jump_misses routine.code (jump_target (control_of s.instr))
+breaks FallsOff p seen depths routine k s = nat_eq (k + 1) (length routine.code) && not (ends (control_of s.instr))
+breaks CallOut p seen depths routine k s = call_misses p.routines (call_target (control_of s.instr))
+breaks Computed p seen depths routine k s = is_computed s.instr
+breaks StackPointer p seen depths routine k s = misuses_pointer p routine k s
+breaks Unreached p seen depths routine k s = not (is_seen seen k)
+breaks PopsReturn p seen depths routine k s = is_seen seen k && (takes_word s.instr && int_lt (depth_at depths k) (pos 2))
+breaks ReturnInStart p seen depths routine k s = routine.start && returns (control_of s.instr)
+breaks CodeWritten p seen depths routine k s = writes_code p.image s.instr

@@ -11,5 +11,5 @@ returns c =
     let p = c.args.unit.now in
     let as_many : length c.unit.inside.routines ≡ length p.routines = ap (λ (q : Program). length q.routines) c.unit.view_is in
     let seen = ap (length {A = Routine}) c.as_slice-place-end.ensures in
-    lowest_line p c.args.rule c.routines.best (all_done (Breaks p c.args.rule) c.routines.place 0 c.routines.best c.routines.invariant
-    (λ i j line h. let l = within_unit p c.args.rule i j line h in let past = c.routines-test.false in omega (arith, l, as_many, seen, past)))
+    lowest_line p c.args.all.now c.requires c.args.rule c.routines.best (all_done (Breaks p c.args.all.now c.args.rule) c.routines.place 0 c.routines.best c.routines.invariant
+    (λ i j line h. let l = within_unit p c.args.all.now c.args.rule i j line h in let past = c.routines-test.false in omega (arith, l, as_many, seen, past)))
