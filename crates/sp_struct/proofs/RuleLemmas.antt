@@ -251,16 +251,38 @@ module _ (p : Program) (all : List Levels) (levels : AreLevels p all) where
   told rule.Computed line (r, k, routine, s, at, l, b) = (r, k, (routine, s, (levels_of at).0, at, (levels_of at).1, l, b))
   told rule.StackPointer line (r, k, routine, s, at, l, m) = (r, k, (routine, s, (levels_of at).0, at, (levels_of at).1, l, pointer_back p routine k s m))
   told rule.Unreached line (r, k, routine, s, at, l, none) =
-      let v = levels_of at in
-      (r, k, (routine, s, v.0, at, v.1, l, lifts (is_seen v.0.reached.items k) (truth (is_seen v.0.reached.items k)
-      (λ t. let d = (levels.each r routine v.0 at.among v.1).some k t in none d.0 d.1.walk))))
+      let v = levels_of at in (
+        r,
+        k,
+        (
+          routine,
+          s,
+          v.0,
+          at,
+          v.1,
+          l,
+          lifts (is_seen v.0.reached.items k) (truth (is_seen v.0.reached.items k)
+              (λ t. let d = (levels.each r routine v.0 at.among v.1).some k t in none d.0 d.1.walk)),
+        ),
+      )
   told rule.PopsReturn line (r, k, routine, s, at, l, (takes, (depth, d, low))) =
       let v = levels_of at in
       let t = levels.each r routine v.0 at.among v.1 in
       let seen : is_seen v.0.reached.items k ≡ true = seen_by (is_seen v.0.reached.items k) (λ f. t.none k f d.0 d.1.walk) in
-      let same : depth_at v.0.depths.items k ≡ depth = one_depth (graph_of p r) routine.code k (depth_at v.0.depths.items k) depth (t.some k seen) d in
-      (r, k, (routine, s, v.0, at, v.1, l, join (is_seen v.0.reached.items k) (takes_word s.instr && int_lt (depth_at v.0.depths.items k) (pos 2)) seen
-      (join (takes_word s.instr) (int_lt (depth_at v.0.depths.items k) (pos 2)) takes (rw same (above depth (pos 2) low)))))
+      let same : depth_at v.0.depths.items k ≡ depth = one_depth (graph_of p r) routine.code k (depth_at v.0.depths.items k) depth (t.some k seen) d in (
+        r,
+        k,
+        (
+          routine,
+          s,
+          v.0,
+          at,
+          v.1,
+          l,
+          join (is_seen v.0.reached.items k) (takes_word s.instr && int_lt (depth_at v.0.depths.items k) (pos 2)) seen
+              (join (takes_word s.instr) (int_lt (depth_at v.0.depths.items k) (pos 2)) takes (rw same (above depth (pos 2) low))),
+        ),
+      )
   told rule.ReturnInStart line (r, k, routine, s, at, l, (e, n)) = (r, k, (routine, s, (levels_of at).0, at, (levels_of at).1, l, join routine.start (returns (control_of s.instr)) e n))
   told rule.CodeWritten line (r, k, routine, s, at, l, (cell, byte, c, e)) = (r, k, (routine, s, (levels_of at).0, at, (levels_of at).1, l, write_back p.image s.instr cell byte c e))
 

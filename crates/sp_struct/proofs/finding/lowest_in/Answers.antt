@@ -26,7 +26,7 @@ places-preserved c =
     let at : IsAt p c.args.place c.places.at routine s = record { among = among; within = within } in
     let l = c.index-all-place.result in
     let there : slice_get c.args.all.now c.args.place ≡ Some l =
-        slice_get_read c.args.all.now (length c.args.all.now) c.args.place l refl (let size = c.requires.levels.size in let low = c.requires.place in omega (arith, size, low)) c.index-all-place.is in
+    slice_get_read c.args.all.now (length c.args.all.now) c.args.place l refl (let size = c.requires.levels.size in let low = c.requires.place in omega (arith, size, low)) c.index-all-place.is in
     elim c.if-breaks.branch [
       | then-breaks w ↦
           rw (w.best-is, w.lower-best.ensures) (broken_here p c.args.all.now c.args.rule c.args.place c.places.at routine s l at there c.places.best c.places.invariant (sym c.breaks.ensures ∙ w.if-breaks.true))
