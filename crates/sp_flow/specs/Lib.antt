@@ -1,0 +1,4 @@
+pub mod Flow
+pub mod Routes
+pub mod Unset
+pub mod code

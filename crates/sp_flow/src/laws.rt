@@ -1,0 +1,7 @@
+ghost use Rattle.sp_flow.specs.Flow.{HasOneAnswer};
+ghost use Rattle.sp_prog.specs.Program.{Program};
+
+/// The flow of a unit is right or has one first rule that is broken, at one line, with one location, cell or port.
+pub fn units_have_one_answer()
+    ensures { (p : Program) → HasOneAnswer p }
+{}

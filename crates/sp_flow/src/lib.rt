@@ -1,0 +1,14 @@
+//! The flow of locations, cells and ports through the routines of a unit: what is used before it is set, and what is
+//! read, changed, taken and put without being listed (this project's own).
+#![tactic(auto)]
+
+mod laws;
+mod refusal;
+mod sets;
+mod spread;
+mod ways;
+
+pub use laws::units_have_one_answer;
+pub use refusal::{FlowKind, FlowRefusal, Spot};
+pub use spread::unset;
+pub use ways::{Way, Ways};
