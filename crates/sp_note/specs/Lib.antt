@@ -1,2 +1,9 @@
+pub mod Bounds
+pub mod Conditions
+pub mod Grammar
+pub mod Meaning
 pub mod Parts
 pub mod RawNotes
+pub mod Sorts
+pub mod Words
+pub mod code

@@ -1,0 +1,9 @@
+pub mod AnswerLemmas
+pub mod ConditionLemmas
+pub mod ItemLemmas
+pub mod LineLemmas
+pub mod ParserLemmas
+pub mod StackLemmas
+pub mod TakeLemmas
+pub mod WordLemmas
+pub mod WrittenLemmas
