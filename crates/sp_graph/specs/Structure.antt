@@ -176,12 +176,18 @@ Takes p s n =
     ((is_push s.instr ≡ true) × (n ≡ 2))
     ⊎ ((c : ℕ) × (callee : Routine) × IsCallOf p s c × (slice_get p.routines c ≡ Some callee) × (n ≡ 2 + callee.depth))
 
--- an instruction that passes the routine's depth, or the line of a start routine whose depth passes the stack region
+-- an instruction that passes the routine's depth
+abbrev pub TakesTooMuch : Program → ℕ → Type 0
+TakesTooMuch p line = OnLine p line (λ r routine k s.
+    (n : ℕ) × (depth : ℤ) × Takes p s n × DepthAt p r routine k depth × (pos routine.depth <ℤ (depth +ℤ pos n)))
+
+-- the line of a start routine whose depth passes the stack region
+abbrev pub PassesRegion : Program → ℕ → Type 0
+PassesRegion p line =
+    (routine : Routine) × Contains p.routines routine × (routine.line.0 ≡ line) × (routine.start ≡ true) × (p.last + 1 < p.first + routine.depth)
+
 abbrev pub PassesDepth : Program → ℕ → Type 0
-PassesDepth p line =
-    OnLine p line (λ r routine k s. (n : ℕ) × (depth : ℤ) × Takes p s n × DepthAt p r routine k depth × (pos routine.depth <ℤ (depth +ℤ pos n)))
-    ⊎ ((routine : Routine) × Contains p.routines routine × (routine.line.0 ≡ line) × (routine.start ≡ true)
-    × (p.last + 1 < p.first + routine.depth))
+PassesDepth p line = TakesTooMuch p line ⊎ PassesRegion p line
 
 -- an instruction without an assertion that lies on a cycle of such instructions, none at a higher address
 abbrev pub IsUncut : Program → ℕ → Type 0

@@ -1,5 +1,5 @@
 -- What the tests of the rules say.
-use Rattle.std.proofs.Common.{◌≡◌, ◌≢◌, ◌<◌, ◌+◌, ℕ, ◌⊎◌, inl, inr, arith, Bool, true, false, List, [], ◌∷◌, Option, None, Some, slice_get, length, get_or, refl, ap, ◌∙◌}
+use Rattle.std.proofs.Common.{◌≡◌, ◌≢◌, ◌<◌, ◌+◌, ℕ, ◌⊎◌, inl, inr, arith, Bool, true, false, List, [], ◌∷◌, Option, None, Some, slice_get, length, get_or, refl, sym, ap, ◌∙◌}
 use Rattle.std.specs.Prelude.{not, ◌&&◌, ◌||◌, nat_eq, Contains}
 use Rattle.std.specs.FinMap as maps
 use Rattle.std.proofs.lemmas.Bool.{eqb-true, eq-eqb}
@@ -20,8 +20,9 @@ use Rattle.sp_prog.specs.declared.routine.Stmt.{Stmt}
 use Rattle.sp_prog.specs.Program.{Program}
 use Rattle.sp_prog.specs.Rules.{address_of}
 use Rattle.sp_graph.specs.Routines.{graph_of}
-use Rattle.sp_graph.specs.Structure.{IsAt, takes_word}
-use Rattle.std.specs.Prelude.{ℤ, pos, ◌<ℤ◌, int_lt}
+use Rattle.sp_graph.specs.Structure.{IsAt, Takes, takes_word, is_push}
+use Rattle.sp_isa.specs.declared.instr.Instr.TheVariants.{Push}
+use Rattle.std.specs.Prelude.{ℤ, pos, ◌<ℤ◌, ◌+ℤ◌, ◌-ℤ◌, int_lt, if◌then◌else◌}
 use Rattle.std.proofs.Common.{tests}
 use Rattle.std.proofs.lemmas.Int.{ints}
 use Rattle.std.proofs.lemmas.Option.{slice_get_within}
@@ -31,7 +32,7 @@ use Rattle.sp_struct.specs.declared.stack.Levels.{Levels}
 use Rattle.sp_struct.proofs.LeastLemmas.{one_depth}
 use Rattle.sp_struct.specs.Kinds.{IsBroken, IsLowestLine}
 use Rattle.sp_struct.specs.code.Lowest.{Breaks, IsLowest}
-use Rattle.sp_struct.specs.code.Rules.{is_missing, jump_misses, is_no_callee, call_misses, loads_elsewhere, loads_other, is_entry, jumps_to_entry, misuses_pointer, is_byte, writes_code}
+use Rattle.sp_struct.specs.code.Rules.{is_missing, jump_misses, is_no_callee, call_misses, loads_elsewhere, loads_other, is_entry, jumps_to_entry, misuses_pointer, is_byte, writes_code, callee_bytes, call_bytes, bytes_taken, passes}
 use Rattle.sp_struct.specs.declared.rules.Rule.{Rule}
 use Rattle.sp_struct.specs.declared.rules.Rule.TheVariants as rule
 
@@ -212,6 +213,43 @@ below x y e = grind (arith, ints, tests)
 above : (x y : ℤ) → x <ℤ y → int_lt x y ≡ true
 above x y e = grind (arith, ints, tests)
 
+-- ---- Bytes of stack
+
+push_calls_none : (i : Instr) → is_push i ≡ true → call_target (control_of i) ≡ None
+push_calls_none (Push pair) e = refl
+push_calls_none _ e = absurd cc
+
+call_takes : (p : Program) (s : Stmt) (t : Option ℕ) (n : ℕ) → call_target (control_of s.instr) ≡ t → call_bytes p.routines t ≡ Some n → Takes p s n
+call_takes p s None n h e = absurd cc
+call_takes p s (Some a) n h e = by_place (routine_at p.routines a) refl e
+  where
+    by_callee : (c : ℕ) (o : Option Routine) → routine_at p.routines a ≡ Some c → slice_get p.routines c ≡ o → callee_bytes o ≡ Some n → Takes p s n
+    by_callee c None at g e = absurd cc
+    by_callee c (Some callee) at g e = inr (c, callee, (a, h, at), g, (let same : 2 + callee.depth ≡ n = cc in sym same))
+    by_place : (o : Option ℕ) → routine_at p.routines a ≡ o → callee_bytes (callee_at p.routines o) ≡ Some n → Takes p s n
+    by_place None at e = absurd cc
+    by_place (Some c) at e = by_callee c (slice_get p.routines c) at refl e
+
+takes_by : (p : Program) (s : Stmt) (n : ℕ) (b : Bool) → is_push s.instr ≡ b →
+    (if b then Some 2 else call_bytes p.routines (call_target (control_of s.instr))) ≡ Some n → Takes p s n
+takes_by p s n true h e = inl (h, (let same : 2 ≡ n = cc in sym same))
+takes_by p s n false h e = call_takes p s (call_target (control_of s.instr)) n refl e
+
+takes_of : (p : Program) (s : Stmt) (n : ℕ) → Takes p s n → bytes_taken p.routines s.instr ≡ Some n
+takes_of p s n (inl (h, e)) = rw (h, e) refl
+takes_of p s n (inr (c, callee, call, g, e)) = by_push (is_push s.instr) refl
+  where
+    by_push : (b : Bool) → is_push s.instr ≡ b → (if b then Some 2 else call_bytes p.routines (call_target (control_of s.instr))) ≡ Some n
+    by_push true h = let none = push_calls_none s.instr h in let some = call.1 in cc (none, some)
+    by_push false h = rw (call.1, call.2, g, e) refl
+
+passed : (o : Option ℕ) (limit : ℕ) (d : ℤ) → passes o limit d ≡ true → (n : ℕ) × (o ≡ Some n) × (pos limit <ℤ (d +ℤ pos n))
+passed None limit d e = absurd cc
+passed (Some n) limit d e = let l = below (pos limit -ℤ pos n) d e in (n, refl, omega (arith, ints, l))
+
+passed_back : (o : Option ℕ) (limit n : ℕ) (d : ℤ) → o ≡ Some n → pos limit <ℤ (d +ℤ pos n) → passes o limit d ≡ true
+passed_back o limit n d e l = rw e (above (pos limit -ℤ pos n) d (omega (arith, ints, l)))
+
 -- ---- Each rule
 
 module _ (p : Program) (all : List Levels) (levels : AreLevels p all) where
@@ -240,6 +278,11 @@ module _ (p : Program) (all : List Levels) (levels : AreLevels p all) where
       let parts = both (is_seen v.reached.items k) (takes_word s.instr && int_lt (depth_at v.depths.items k) (pos 2)) b in
       let takes = both (takes_word s.instr) (int_lt (depth_at v.depths.items k) (pos 2)) parts.1 in
       (r, k, routine, s, at, l, (takes.0, (depth_at v.depths.items k, (levels.each r routine v at.among there).some k parts.0, below (depth_at v.depths.items k) (pos 2) takes.1)))
+  tells rule.OverDepth r k line (routine, s, v, at, there, l, b) =
+      let parts = both (is_seen v.reached.items k) (passes (bytes_taken p.routines s.instr) routine.depth (depth_at v.depths.items k)) b in
+      let over = passed (bytes_taken p.routines s.instr) routine.depth (depth_at v.depths.items k) parts.1 in
+      (r, k, routine, s, at, l, (over.0, depth_at v.depths.items k, takes_by p s over.0 (is_push s.instr) refl over.1,
+      (levels.each r routine v at.among there).some k parts.0, over.2))
   tells rule.ReturnInStart r k line (routine, s, v, at, there, l, b) = (r, k, routine, s, at, l, both routine.start (returns (control_of s.instr)) b)
   tells rule.CodeWritten r k line (routine, s, v, at, there, l, b) = (r, k, routine, s, at, l, write_out p.image s.instr b)
 
@@ -283,6 +326,13 @@ module _ (p : Program) (all : List Levels) (levels : AreLevels p all) where
               (join (takes_word s.instr) (int_lt (depth_at v.0.depths.items k) (pos 2)) takes (rw same (above depth (pos 2) low))),
         ),
       )
+  told rule.OverDepth line (r, k, routine, s, at, l, (n, depth, takes, d, over)) =
+      let v = levels_of at in
+      let t = levels.each r routine v.0 at.among v.1 in
+      let seen : is_seen v.0.reached.items k ≡ true = seen_by (is_seen v.0.reached.items k) (λ f. t.none k f d.0 d.1.walk) in
+      let same : depth_at v.0.depths.items k ≡ depth = one_depth (graph_of p r) routine.code k (depth_at v.0.depths.items k) depth (t.some k seen) d in
+      (r, k, (routine, s, v.0, at, v.1, l, join (is_seen v.0.reached.items k) (passes (bytes_taken p.routines s.instr) routine.depth (depth_at v.0.depths.items k)) seen
+      (rw same (passed_back (bytes_taken p.routines s.instr) routine.depth n depth (takes_of p s n takes) over))))
   told rule.ReturnInStart line (r, k, routine, s, at, l, (e, n)) = (r, k, (routine, s, (levels_of at).0, at, (levels_of at).1, l, join routine.start (returns (control_of s.instr)) e n))
   told rule.CodeWritten line (r, k, routine, s, at, l, (cell, byte, c, e)) = (r, k, (routine, s, (levels_of at).0, at, (levels_of at).1, l, write_back p.image s.instr cell byte c e))
 

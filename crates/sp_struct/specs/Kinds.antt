@@ -1,7 +1,7 @@
 -- The rules that look at one instruction, by name.
 use Rattle.std.specs.Prelude.{◌≡◌, ◌≤◌, ℕ, Option, Some}
 use Rattle.sp_base.specs.declared.line.Line.{Line}
-use Rattle.sp_graph.specs.Structure.{JumpsOut, FallsOff, CallsOut, Computes, MovesPointer, IsUnreached, PopsReturn, ReturnsInStart, WritesCode}
+use Rattle.sp_graph.specs.Structure.{JumpsOut, FallsOff, CallsOut, Computes, MovesPointer, IsUnreached, PopsReturn, TakesTooMuch, ReturnsInStart, WritesCode}
 use Rattle.sp_prog.specs.Program.{Program}
 use Rattle.sp_struct.specs.declared.rules.Rule.{Rule}
 use Rattle.sp_struct.specs.declared.rules.Rule.TheVariants as rule
@@ -15,6 +15,7 @@ IsBroken p rule.Computed = Computes p
 IsBroken p rule.StackPointer = MovesPointer p
 IsBroken p rule.Unreached = IsUnreached p
 IsBroken p rule.PopsReturn = PopsReturn p
+IsBroken p rule.OverDepth = TakesTooMuch p
 IsBroken p rule.ReturnInStart = ReturnsInStart p
 IsBroken p rule.CodeWritten = WritesCode p
 

@@ -7,11 +7,11 @@ ghost use Rattle.sp_graph.specs.Structure.{takes_word};
 ghost use Rattle.sp_struct.specs.code.Depths.{depth_at, is_seen};
 ghost use Rattle.sp_struct.specs.code.Levels.{AreLevels};
 ghost use Rattle.sp_struct.specs.code.Lowest.{lower, Breaks, LowestSoFar};
-ghost use Rattle.sp_struct.specs.code.Rules.{breaks, misuses_pointer};
+ghost use Rattle.sp_struct.specs.code.Rules.{breaks, bytes_taken, misuses_pointer, passes};
 
 use crate::rules::{
-    Rule, call_misses, call_target, ends, is_computed, jump_misses, jump_target, jumps_to_entry,
-    loaded_pointer, loads_elsewhere, loads_other, moves_pointer, returns, takes_word, writes_code,
+    Rule, bytes_taken, call_misses, call_target, ends, is_computed, jump_misses, jump_target, jumps_to_entry,
+    loaded_pointer, loads_elsewhere, loads_other, moves_pointer, passes, returns, takes_word, writes_code,
 };
 use crate::stack::Levels;
 use sp_base::Line;
@@ -45,6 +45,17 @@ fn pops_return(levels: &Levels, at: usize, stmt: &Stmt) -> bool
     levels.reached[at] && takes_word(&stmt.instr) && levels.depths[at] < 2
 }
 
+/// Whether an instruction takes more of the stack than the routine may.
+fn over_depth(unit: &Unit, levels: &Levels, routine: &Routine, at: usize, stmt: &Stmt) -> bool
+    requires seen { at < length levels.now.reached.items }
+    requires depths { at < length levels.now.depths.items }
+    ensures { result ≡ is_seen levels.now.reached.items at
+        && passes (bytes_taken unit.now.routines stmt.now.instr) routine.now.depth (depth_at levels.now.depths.items at) }
+{
+    let taken = bytes_taken(unit.routines.as_slice(), &stmt.instr);
+    levels.reached[at] && passes(taken, routine.depth, levels.depths[at])
+}
+
 /// Whether an instruction breaks a rule.
 fn breaks(
     unit: &Unit,
@@ -70,6 +81,7 @@ fn breaks(
         Rule::StackPointer => misuses_pointer(unit, routine, at, stmt),
         Rule::Unreached => !levels.reached[at],
         Rule::PopsReturn => pops_return(levels, at, stmt),
+        Rule::OverDepth => over_depth(unit, levels, routine, at, stmt),
         Rule::ReturnInStart => routine.start && returns(control),
         Rule::CodeWritten => writes_code(&unit.image, &stmt.instr),
     }

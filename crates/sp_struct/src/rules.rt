@@ -1,11 +1,11 @@
 ghost use Rattle.std.specs.Prelude.{◌≡◌, map};
 ghost use Rattle.std.specs.List.Sorted.{IsStrictlyIncreasing};
-ghost use Rattle.sp_graph.specs.Structure.{jump_target, call_target, ends, returns, is_computed, moves_pointer, loaded_pointer, takes_word};
+ghost use Rattle.sp_graph.specs.Structure.{jump_target, call_target, ends, returns, is_computed, moves_pointer, loaded_pointer, takes_word, is_push};
 ghost use Rattle.sp_prog.specs.Rules.{AreLaidOut, address_of, first_address};
-ghost use Rattle.sp_struct.specs.code.Rules.{is_pointer, jump_misses, call_misses, loads_elsewhere, loads_other, jumps_to_entry, writes_code};
+ghost use Rattle.sp_struct.specs.code.Rules.{is_pointer, jump_misses, call_misses, loads_elsewhere, loads_other, jumps_to_entry, writes_code, call_bytes, bytes_taken, passes};
 
 use sp_base::{Image, Pair};
-use sp_graph::{Control, place_of, routine_at};
+use sp_graph::{Control, control_of, place_of, routine_at};
 use sp_isa::Instr;
 use sp_prog::{Routine, Stmt};
 
@@ -26,6 +26,8 @@ pub enum Rule {
     Unreached,
     /// POP and XTHL take no return address.
     PopsReturn,
+    /// PUSH and calls take no more bytes of stack than the routine's depth.
+    OverDepth,
     /// A start routine doesn't return.
     ReturnInStart,
     /// No byte of the image is stored to.
@@ -118,6 +120,52 @@ pub fn takes_word(instr: &Instr) -> bool
     match *instr {
         Instr::Pop(_) | Instr::Xthl => true,
         _ => false,
+    }
+}
+
+/// Whether an instruction is PUSH.
+fn is_push(instr: &Instr) -> bool
+    ensures { result ≡ is_push instr.now }
+{
+    match *instr {
+        Instr::Push(_) => true,
+        _ => false,
+    }
+}
+
+/// How many bytes of stack a call takes, if it calls a routine.
+fn call_bytes(routines: &[Routine], target: Option<u16>) -> Option<u32>
+    requires { IsStrictlyIncreasing (map address_of routines.now) }
+    ensures { result ≡ call_bytes routines.now target }
+{
+    match target {
+        Some(address) => match routine_at(routines, address) {
+            Some(callee) => Some(2 + u32::from(routines[callee].depth)),
+            None => None,
+        },
+        None => None,
+    }
+}
+
+/// How many bytes of stack an instruction takes, if it is PUSH or a call of a routine.
+pub fn bytes_taken(routines: &[Routine], instr: &Instr) -> Option<u32>
+    requires { IsStrictlyIncreasing (map address_of routines.now) }
+    ensures { result ≡ bytes_taken routines.now instr.now }
+{
+    if is_push(instr) {
+        Some(2)
+    } else {
+        call_bytes(routines, call_target(control_of(instr)))
+    }
+}
+
+/// Whether so many bytes more than a depth pass a limit.
+pub fn passes(taken: Option<u32>, limit: u16, depth: i64) -> bool
+    ensures { result ≡ passes taken limit depth }
+{
+    match taken {
+        Some(n) => i64::from(limit) - i64::from(n) < depth,
+        None => false,
     }
 }
 

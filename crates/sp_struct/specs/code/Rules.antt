@@ -1,5 +1,5 @@
 -- Which of the rules that look at one instruction alone an instruction breaks.
-use Rattle.std.specs.Prelude.{◌+◌, ℕ, Bool, true, false, not, ◌&&◌, ◌||◌, nat_eq, List, Option, None, Some, length, ℤ, pos, int_lt}
+use Rattle.std.specs.Prelude.{◌+◌, ℕ, Bool, true, false, not, ◌&&◌, ◌||◌, nat_eq, List, Option, None, Some, length, ℤ, pos, int_lt, ◌-ℤ◌, if◌then◌else◌}
 use Rattle.std.specs.List.{list_any}
 use Rattle.std.specs.FinMap as maps
 use Rattle.sp_base.specs.Image.{ImageMap}
@@ -8,14 +8,14 @@ use Rattle.sp_base.specs.declared.pair.Pair.TheVariants as pair
 use Rattle.sp_isa.specs.declared.instr.Instr.{Instr}
 use Rattle.sp_graph.specs.Control.{control_of}
 use Rattle.sp_graph.specs.Routines.{callee_at}
-use Rattle.sp_graph.specs.Structure.{jump_target, call_target, ends, returns, is_computed, moves_pointer, loaded_pointer, takes_word, stored}
+use Rattle.sp_graph.specs.Structure.{jump_target, call_target, ends, returns, is_computed, moves_pointer, loaded_pointer, takes_word, is_push, stored}
 use Rattle.sp_graph.specs.Successors.{place_of, routine_at}
 use Rattle.sp_prog.specs.declared.routine.Routine.{Routine}
 use Rattle.sp_prog.specs.declared.routine.Stmt.{Stmt}
 use Rattle.sp_prog.specs.Program.{Program}
 use Rattle.sp_struct.specs.code.Depths.{depth_at, is_seen}
 use Rattle.sp_struct.specs.declared.rules.Rule.{Rule}
-use Rattle.sp_struct.specs.declared.rules.Rule.TheVariants.{JumpOut, FallsOff, CallOut, Computed, StackPointer, Unreached, PopsReturn, ReturnInStart, CodeWritten}
+use Rattle.sp_struct.specs.declared.rules.Rule.TheVariants.{JumpOut, FallsOff, CallOut, Computed, StackPointer, Unreached, PopsReturn, OverDepth, ReturnInStart, CodeWritten}
 
 abbrev pub is_pointer : Pair → Bool
 is_pointer pair.Sp = true
@@ -70,6 +70,23 @@ is_byte (Some byte) = true
 abbrev pub writes_code : ImageMap → Instr → Bool
 writes_code image i = list_any (λ cell. is_byte (maps.get image cell)) (stored i)
 
+-- how many bytes of stack a call of a routine takes: a return address, and what the callee takes
+abbrev pub callee_bytes : Option Routine → Option ℕ
+callee_bytes None = None
+callee_bytes (Some callee) = Some (2 + callee.depth)
+
+abbrev pub call_bytes : List Routine → Option ℕ → Option ℕ
+call_bytes routines None = None
+call_bytes routines (Some address) = callee_bytes (callee_at routines (routine_at routines address))
+
+-- how many bytes of stack an instruction takes, if it is PUSH or a call of a routine
+abbrev pub bytes_taken : List Routine → Instr → Option ℕ
+bytes_taken routines i = if is_push i then Some 2 else call_bytes routines (call_target (control_of i))
+
+abbrev pub passes : Option ℕ → ℕ → ℤ → Bool
+passes None limit depth = false
+passes (Some n) limit depth = int_lt (pos limit -ℤ pos n) depth
+
 -- whether an instruction breaks a rule
 abbrev pub breaks : Rule → Program → List Bool → List ℤ → Routine → ℕ → Stmt → Bool
 breaks JumpOut p seen depths routine k s = jump_misses routine.code (jump_target (control_of s.instr))
@@ -79,5 +96,6 @@ breaks Computed p seen depths routine k s = is_computed s.instr
 breaks StackPointer p seen depths routine k s = misuses_pointer p routine k s
 breaks Unreached p seen depths routine k s = not (is_seen seen k)
 breaks PopsReturn p seen depths routine k s = is_seen seen k && (takes_word s.instr && int_lt (depth_at depths k) (pos 2))
+breaks OverDepth p seen depths routine k s = is_seen seen k && passes (bytes_taken p.routines s.instr) routine.depth (depth_at depths k)
 breaks ReturnInStart p seen depths routine k s = routine.start && returns (control_of s.instr)
 breaks CodeWritten p seen depths routine k s = writes_code p.image s.instr
