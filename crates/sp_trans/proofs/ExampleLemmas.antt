@@ -21,7 +21,7 @@ unfolding applied increased with_arg_term arg_term with_szp_term with_term
 increases g j = record { register = refl; carry = refl }
 
 names : (g0 g : Symbolic) → NumbersNames g0 g
-names g0 g = record { two = refl; hidden = refl; beside = refl }
+names g0 g = record { nested = refl; hidden = refl; beside = refl }
 
 pub translates_by_example : TranslatesByExample
 translates_by_example = record { joins = joins; increases = increases; words = λ w v. record { first = refl; second = refl }; names = names }

@@ -7,7 +7,7 @@ use Rattle.sp_isa.specs.declared.instr.StackPair.TheVariants as stack
 use Rattle.sp_isa.specs.declared.instr.Instr.TheVariants as instr
 use Rattle.sp_isa.specs.Core.{Core}
 use Rattle.sp_model.specs.Note as note
-use Rattle.sp_model.specs.Note.{Frame, Quantity}
+use Rattle.sp_model.specs.Note.{Frame, Quantity, Note}
 use Rattle.sp_term.specs.declared.var.Var.TheVariants as var
 use Rattle.sp_term.specs.Tree.{Tree, Variable, Add, Multiply, Divide, Remainder, Equal, And, ForAll, ForSome}
 use Rattle.sp_term.specs.Value.{Env}
@@ -53,13 +53,29 @@ J = note.Bound (codes "J")
 abbrev pub bound : ℕ → Tree
 bound k = Variable (var.Bound k)
 
+-- a quantifier over the numbers from one through another
+abbrev pub for_all : List ℕ → Quantity → Quantity → Note → Note
+for_all name x y p = note.Quantify note.ForAll name x y p
+
+abbrev pub for_some : List ℕ → Quantity → Quantity → Note → Note
+for_some name x y p = note.Quantify note.ForSome name x y p
+
+abbrev pub equal : Quantity → Quantity → Note
+equal x y = note.Compare note.Equal x y
+
+abbrev pub two : Quantity
+two = note.Literal 2
+
+abbrev pub three : Quantity
+three = note.Literal 3
+
 -- names are numbered from the outermost quantifier on; a name is that of its innermost one, whose ends are outside it
 pub record NumbersNames (g0 g : Symbolic) : Type 0 where
-  pub two : formula_of g0 g (note.Quantify note.ForAll (codes "I") (note.Literal 2) (note.Literal 3) (note.Quantify note.ForSome (codes "J") I (note.Literal 4) (note.Compare note.Equal I J)))
-      ≡ ForAll 1 (number 2) (number 3) (ForSome 2 (bound 1) (number 4) (Equal (bound 1) (bound 2)))
-  pub hidden : formula_of g0 g (note.Quantify note.ForAll (codes "I") (note.Literal 2) (note.Literal 3) (note.Quantify note.ForSome (codes "I") I I (note.Compare note.Equal I I)))
+  pub nested : formula_of g0 g (for_all (codes "I") two three (for_some (codes "J") I three (equal I J)))
+      ≡ ForAll 1 (number 2) (number 3) (ForSome 2 (bound 1) (number 3) (Equal (bound 1) (bound 2)))
+  pub hidden : formula_of g0 g (for_all (codes "I") two three (for_some (codes "I") I I (equal I I)))
       ≡ ForAll 1 (number 2) (number 3) (ForSome 2 (bound 1) (bound 1) (Equal (bound 2) (bound 2)))
-  pub beside : formula_of g0 g (note.Connect note.And (note.Quantify note.ForAll (codes "I") (note.Literal 2) (note.Literal 3) (note.Compare note.Equal I I)) (note.Quantify note.ForSome (codes "J") (note.Literal 2) (note.Literal 3) (note.Compare note.Equal J J)))
+  pub beside : formula_of g0 g (note.Connect note.And (for_all (codes "I") two three (equal I I)) (for_some (codes "J") two three (equal J J)))
       ≡ And (ForAll 1 (number 2) (number 3) (Equal (bound 1) (bound 1))) (ForSome 1 (number 2) (number 3) (Equal (bound 1) (bound 1)))
 
 pub record TranslatesByExample : Type 0 where

@@ -16,7 +16,8 @@ use sp_term::{Kind, Term, make};
 /// RLC.
 #[tactic(auto, unfolding(crate::specs::Translation::rotated))]
 pub fn rotated_left<'a>(arena: &'a Bump, g: Terms<'a>) -> Result<Terms<'a>, Memory>
-    ensures { IfOk result (λ t. state t ≡ rotated (Add (doubled g.entry.a.now) (over g.entry.a.now 128)) (over g.entry.a.now 128) (state g.entry)) }
+    ensures { IfOk result (λ t. state t ≡
+        rotated (Add (doubled g.entry.a.now) (over g.entry.a.now 128)) (over g.entry.a.now 128) (state g.entry)) }
 {
     let two = doubled(arena, g.a)?;
     let out = over(arena, g.a, 128)?;
@@ -27,7 +28,8 @@ pub fn rotated_left<'a>(arena: &'a Bump, g: Terms<'a>) -> Result<Terms<'a>, Memo
 /// RRC.
 #[tactic(auto, unfolding(crate::specs::Translation::rotated))]
 pub fn rotated_right<'a>(arena: &'a Bump, g: Terms<'a>) -> Result<Terms<'a>, Memory>
-    ensures { IfOk result (λ t. state t ≡ rotated (Add (over g.entry.a.now 2) (Multiply (number 128) (modulo g.entry.a.now 2))) (modulo g.entry.a.now 2) (state g.entry)) }
+    ensures { IfOk result (λ t. state t ≡
+        rotated (Add (over g.entry.a.now 2) (Multiply (number 128) (modulo g.entry.a.now 2))) (modulo g.entry.a.now 2) (state g.entry)) }
 {
     let half = over(arena, g.a, 2)?;
     let out = modulo(arena, g.a, 2)?;
@@ -39,7 +41,8 @@ pub fn rotated_right<'a>(arena: &'a Bump, g: Terms<'a>) -> Result<Terms<'a>, Mem
 /// RAL.
 #[tactic(auto, unfolding(crate::specs::Translation::rotated))]
 pub fn rotated_left_through_carry<'a>(arena: &'a Bump, g: Terms<'a>) -> Result<Terms<'a>, Memory>
-    ensures { IfOk result (λ t. state t ≡ rotated (Add (doubled g.entry.a.now) g.entry.cy.now) (over g.entry.a.now 128) (state g.entry)) }
+    ensures { IfOk result (λ t. state t ≡
+        rotated (Add (doubled g.entry.a.now) g.entry.cy.now) (over g.entry.a.now 128) (state g.entry)) }
 {
     let two = doubled(arena, g.a)?;
     let r = add(arena, two, g.cy)?;
@@ -50,7 +53,8 @@ pub fn rotated_left_through_carry<'a>(arena: &'a Bump, g: Terms<'a>) -> Result<T
 /// RAR.
 #[tactic(auto, unfolding(crate::specs::Translation::rotated))]
 pub fn rotated_right_through_carry<'a>(arena: &'a Bump, g: Terms<'a>) -> Result<Terms<'a>, Memory>
-    ensures { IfOk result (λ t. state t ≡ rotated (Add (over g.entry.a.now 2) (Multiply (number 128) g.entry.cy.now)) (modulo g.entry.a.now 2) (state g.entry)) }
+    ensures { IfOk result (λ t. state t ≡
+        rotated (Add (over g.entry.a.now 2) (Multiply (number 128) g.entry.cy.now)) (modulo g.entry.a.now 2) (state g.entry)) }
 {
     let half = over(arena, g.a, 2)?;
     let top = times(arena, 128, g.cy)?;

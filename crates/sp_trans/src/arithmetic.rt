@@ -2,7 +2,18 @@
 ghost use Rattle.std.specs.Prelude.{◌≡◌, IfOk};
 ghost use Rattle.sp_isa.specs.declared.instr.Op.TheVariants as op;
 ghost use Rattle.sp_term.specs.Tree.{Subtract};
-ghost use Rattle.sp_trans.specs.Translation.{modulo, with_szp_term, increased, decreased, with_sum, with_compared, with_difference, with_logic, operated, pair_added};
+ghost use Rattle.sp_trans.specs.Translation.{
+  modulo,
+  with_szp_term,
+  increased,
+  decreased,
+  with_sum,
+  with_compared,
+  with_difference,
+  with_logic,
+  operated,
+  pair_added,
+};
 ghost use Rattle.sp_trans.specs.code.Terms.{state};
 
 use crate::build::{add, bit, choice, equals, flag_if, modulo, number, over, subtract};

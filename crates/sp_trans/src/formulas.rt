@@ -4,7 +4,18 @@ ghost use Rattle.sp_logic.specs.View.{moment_of, pair_of, operator_of, compariso
 ghost use Rattle.sp_logic.specs.WellFormed.{IsInLimits, NoteIsInLimits, IsWellFormed};
 ghost use Rattle.sp_term.specs.Tree.{Not};
 ghost use Rattle.sp_trans.specs.Symbolic.{number};
-ghost use Rattle.sp_trans.specs.Formulas.{state_at, register_pair_term, stack_term, operation, comparison_formula, connective_formula, quantifier_formula, formula_of, QuantityFits, NoteFits};
+ghost use Rattle.sp_trans.specs.Formulas.{
+  state_at,
+  register_pair_term,
+  stack_term,
+  operation,
+  comparison_formula,
+  connective_formula,
+  quantifier_formula,
+  formula_of,
+  QuantityFits,
+  NoteFits,
+};
 ghost use Rattle.sp_trans.specs.View.{symbolic_of};
 ghost use Rattle.sp_trans.specs.code.Between.{term_between, formula_between};
 ghost use Rattle.sp_trans.specs.code.Names.{AreNumbered};

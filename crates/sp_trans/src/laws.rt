@@ -1,6 +1,13 @@
 //! What translation is for, as contracts of functions that do nothing.
 ghost use Rattle.sp_trans.specs.Examples.{TranslatesByExample, PremisesAreMet};
-ghost use Rattle.sp_trans.specs.Theorems.{StepsAreTranslated, PointersStay, CallsKeepValues, NotesAreTranslated, StatesStaySymbolic, FormulasAreClosed};
+ghost use Rattle.sp_trans.specs.Theorems.{
+  StepsAreTranslated,
+  PointersStay,
+  CallsKeepValues,
+  NotesAreTranslated,
+  StatesStaySymbolic,
+  FormulasAreClosed,
+};
 
 /// A step of the processor keeps its core the value of the symbolic state through the instruction.
 pub fn steps_are_translated()

@@ -134,7 +134,8 @@ impl<'a> Terms<'a> {
     /// These terms with one more word on the stack.
     #[tactic(auto, unfolding(crate::specs::Symbolic::with_slots))]
     pub fn with_word(self, arena: &'a Bump, word: Word<'a>) -> Result<Terms<'a>, Memory>
-        ensures { IfOk result (λ r. state r ≡ with_slots (word_of word.entry ∷ (state self.entry).slots) (state self.entry)) }
+        ensures { IfOk result (λ r. state r ≡
+            with_slots (word_of word.entry ∷ (state self.entry).slots) (state self.entry)) }
     {
         let mut slots = Vec::new(arena);
         slots.extend_from_slice(self.slots)?;

@@ -5,7 +5,22 @@ ghost use Rattle.sp_base.specs.declared.pair.Pair.TheVariants as pair;
 ghost use Rattle.sp_term.specs.declared.var.Var.TheVariants as var;
 ghost use Rattle.sp_term.specs.Tree.{Variable, Add, Subtract};
 ghost use Rattle.sp_trans.specs.Symbolic.{number, pair_term, with_term, with_slots};
-ghost use Rattle.sp_trans.specs.Translation.{arg_term, modulo, element, with_cell_term, with_arg_term, with_bytes, with_word, exchanged, next, pushed, with_flag_bits, with_top, popped, top_exchanged};
+ghost use Rattle.sp_trans.specs.Translation.{
+  arg_term,
+  modulo,
+  element,
+  with_cell_term,
+  with_arg_term,
+  with_bytes,
+  with_word,
+  exchanged,
+  next,
+  pushed,
+  with_flag_bits,
+  with_top,
+  popped,
+  top_exchanged,
+};
 ghost use Rattle.sp_trans.specs.View.{word_of};
 ghost use Rattle.sp_trans.specs.code.Terms.{state};
 
@@ -44,7 +59,8 @@ pub fn word_moved<'a>(arena: &'a Bump, p: Pair, w: u16, g: Terms<'a>) -> Result<
 
 /// INX.
 pub fn pair_increased<'a>(arena: &'a Bump, p: Pair, g: Terms<'a>) -> Result<Terms<'a>, Memory>
-    ensures { IfOk result (λ t. state t ≡ with_word p (modulo (Add (pair_term p (state g.entry)) (number 1)) 65536) (state g.entry)) }
+    ensures { IfOk result (λ t. state t ≡
+        with_word p (modulo (Add (pair_term p (state g.entry)) (number 1)) 65536) (state g.entry)) }
 {
     let w = pair_term(arena, p, g)?;
     let one = number(arena, 1)?;
@@ -55,7 +71,8 @@ pub fn pair_increased<'a>(arena: &'a Bump, p: Pair, g: Terms<'a>) -> Result<Term
 
 /// DCX.
 pub fn pair_decreased<'a>(arena: &'a Bump, p: Pair, g: Terms<'a>) -> Result<Terms<'a>, Memory>
-    ensures { IfOk result (λ t. state t ≡ with_word p (modulo (Subtract (pair_term p (state g.entry)) (number 1)) 65536) (state g.entry)) }
+    ensures { IfOk result (λ t. state t ≡
+        with_word p (modulo (Subtract (pair_term p (state g.entry)) (number 1)) 65536) (state g.entry)) }
 {
     let w = pair_term(arena, p, g)?;
     let one = number(arena, 1)?;
@@ -82,7 +99,8 @@ pub fn stored_at_pair<'a>(arena: &'a Bump, p: Pair, g: Terms<'a>) -> Result<Term
 
 /// LDAX.
 pub fn loaded_from_pair<'a>(arena: &'a Bump, p: Pair, g: Terms<'a>) -> Result<Terms<'a>, Memory>
-    ensures { IfOk result (λ t. state t ≡ with_term loc.A (element (state g.entry) (pair_term p (state g.entry))) (state g.entry)) }
+    ensures { IfOk result (λ t. state t ≡
+        with_term loc.A (element (state g.entry) (pair_term p (state g.entry))) (state g.entry)) }
 {
     let at = pair_term(arena, p, g)?;
     loaded_from(arena, at, g)
