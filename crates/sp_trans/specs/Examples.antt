@@ -1,5 +1,5 @@
 -- Translation by example, and premises that can be met.
-use Rattle.std.specs.Prelude.{◌≡◌, ℕ, ◌+◌, ◌<◌, ◌≤◌, codes, [], ◌∷◌}
+use Rattle.std.specs.Prelude.{◌≡◌, ℕ, List, ◌+◌, ◌<◌, ◌≤◌, codes, [], ◌∷◌}
 use Rattle.sp_base.specs.declared.location.Reg.TheVariants as reg
 use Rattle.sp_base.specs.declared.location.Loc.TheVariants as loc
 use Rattle.sp_isa.specs.declared.instr.Arg.TheVariants as arg
