@@ -36,12 +36,12 @@ use Rattle.sp_struct.specs.code.Rules.{is_missing, jump_misses, is_no_callee, ca
 use Rattle.sp_struct.specs.declared.rules.Rule.{Rule}
 use Rattle.sp_struct.specs.declared.rules.Rule.TheVariants as rule
 
-both : (a b : Bool) → (a && b) ≡ true → (a ≡ true) × (b ≡ true)
+pub both : (a b : Bool) → (a && b) ≡ true → (a ≡ true) × (b ≡ true)
 both true true e = (refl, refl)
 both true false e = absurd cc
 both false b e = absurd cc
 
-join : (a b : Bool) → a ≡ true → b ≡ true → (a && b) ≡ true
+pub join : (a b : Bool) → a ≡ true → b ≡ true → (a && b) ≡ true
 join a b e f = rw (e, f) refl
 
 either : (a b : Bool) → (a || b) ≡ true → (a ≡ true) ⊎ (b ≡ true)

@@ -88,7 +88,7 @@ fn breaks(
 }
 
 /// The lower one of the lines.
-fn lower(best: Option<Line>, line: Line) -> Option<Line>
+pub fn lower(best: Option<Line>, line: Line) -> Option<Line>
     ensures { result ≡ lower best line }
 {
     match best {

@@ -5,6 +5,7 @@
 mod breadth;
 mod cycles;
 mod finding;
+mod headers;
 mod rules;
 mod stack;
 mod unit_levels;
@@ -12,6 +13,7 @@ mod unit_levels;
 pub use breadth::{Reached, least_walks};
 pub use cycles::uncut;
 pub use finding::lowest;
+pub use headers::lowest_header;
 pub use rules::Rule;
 pub use stack::{Levels, effect, find_levels};
 pub use unit_levels::all_levels;
