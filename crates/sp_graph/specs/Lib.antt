@@ -6,6 +6,7 @@ pub mod Graph
 pub mod Laws
 pub mod Least
 pub mod Routines
+pub mod SoundUnits
 pub mod Structure
 pub mod Successors
 pub mod Walks

@@ -15,6 +15,7 @@ mod refusal;
 mod routine;
 mod search;
 mod sorting;
+mod sound;
 mod walk;
 
 pub use control::{Control, accesses, control_of};
@@ -29,4 +30,5 @@ pub use refusal::WalksRefusal;
 pub use routine::{cuts, walks, walks_in};
 pub use search::Search;
 pub use sorting::{Outcome, sort};
+pub use sound::{Depths, RoutineDepths, Sound};
 pub use walk::{Cut, Step, Steps, Walk};
