@@ -1,6 +1,6 @@
 -- The lowest of header lines.
-use Rattle.std.proofs.Common.{◌≡◌, ◌<◌, ◌+◌, ℕ, arith, Bool, true, false, List, Option, Some, slice_get, length, refl, sym, ap, ◌∙◌}
-use Rattle.std.specs.Prelude.{◌&&◌, nat_lt, Contains}
+use Rattle.std.proofs.Common.{◌≡◌, ◌<◌, ◌+◌, ℕ, arith, true, false, Option, Some, slice_get, length, refl, sym, ap, ◌∙◌}
+use Rattle.std.specs.Prelude.{nat_lt}
 use Rattle.std.proofs.lemmas.Bool.{ltb-true, lt-ltb}
 use Rattle.std.proofs.lemmas.List.Elements.{Contains-from_at, at_from_Contains}
 use Rattle.std.proofs.lemmas.Option.{slice_get_within, get_or_from_slice_get, slice_get_read}
@@ -11,7 +11,7 @@ use Rattle.sp_prog.specs.Program.{Program}
 use Rattle.sp_struct.specs.Kinds.{IsLowestLine}
 use Rattle.sp_struct.specs.code.Headers.{Header, passes_region}
 use Rattle.sp_struct.specs.code.Lowest.{lower, LowestSoFar, IsLowest}
-use Rattle.sp_struct.proofs.LowestLemmas.{one_more, none_more, routine_done, all_done}
+use Rattle.sp_struct.proofs.LowestLemmas.{one_more, none_more, routine_done}
 use Rattle.sp_struct.proofs.RuleLemmas.{both, join}
 
 module _ (p : Program) (r : ℕ) (routine : Routine) (e : slice_get p.routines r ≡ Some routine) (best : Option Line) (so_far : LowestSoFar (Header p) r 0 best) where
@@ -41,11 +41,20 @@ headers_told p best low = record {
   found = λ line e.
       let f = low.found line e in
       let h = f.2 in
-      let parts = both h.0.start (nat_lt (p.last + 1) (p.first + h.0.depth)) h.4 in
-      (h.0, Contains-from_at p.routines h.0 (f.0, slice_get_within p.routines f.0 h.0 h.1, λ d. get_or_from_slice_get p.routines f.0 h.0 d h.1), h.3, parts.0,
-      ltb-true (p.last + 1) (p.first + h.0.depth) parts.1);
+      let parts = both h.0.start (nat_lt (p.last + 1) (p.first + h.0.depth)) h.4 in (
+        h.0,
+        Contains-from_at p.routines h.0 (f.0, slice_get_within p.routines f.0 h.0 h.1, λ d. get_or_from_slice_get p.routines f.0 h.0 d h.1),
+        h.3,
+        parts.0,
+        ltb-true (p.last + 1) (p.first + h.0.depth) parts.1,
+      );
   least = λ line q.
       let at = at_from_Contains p.routines q.0 q.1 in
-      low.least at.0 0 line (q.0, slice_get_read p.routines (length p.routines) at.0 q.0 refl at.1 (sym (at.2 q.0)), refl, q.2,
-      join q.0.start (nat_lt (p.last + 1) (p.first + q.0.depth)) q.3 (lt-ltb (p.last + 1) (p.first + q.0.depth) q.4));
+      low.least at.0 0 line (
+        q.0,
+        slice_get_read p.routines (length p.routines) at.0 q.0 refl at.1 (sym (at.2 q.0)),
+        refl,
+        q.2,
+        join q.0.start (nat_lt (p.last + 1) (p.first + q.0.depth)) q.3 (lt-ltb (p.last + 1) (p.first + q.0.depth) q.4),
+      );
 }

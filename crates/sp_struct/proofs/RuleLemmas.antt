@@ -226,6 +226,7 @@ call_takes p s (Some a) n h e = by_place (routine_at p.routines a) refl e
     by_callee : (c : ℕ) (o : Option Routine) → routine_at p.routines a ≡ Some c → slice_get p.routines c ≡ o → callee_bytes o ≡ Some n → Takes p s n
     by_callee c None at g e = absurd cc
     by_callee c (Some callee) at g e = inr (c, callee, (a, h, at), g, (let same : 2 + callee.depth ≡ n = cc in sym same))
+
     by_place : (o : Option ℕ) → routine_at p.routines a ≡ o → callee_bytes (callee_at p.routines o) ≡ Some n → Takes p s n
     by_place None at e = absurd cc
     by_place (Some c) at e = by_callee c (slice_get p.routines c) at refl e
@@ -280,9 +281,21 @@ module _ (p : Program) (all : List Levels) (levels : AreLevels p all) where
       (r, k, routine, s, at, l, (takes.0, (depth_at v.depths.items k, (levels.each r routine v at.among there).some k parts.0, below (depth_at v.depths.items k) (pos 2) takes.1)))
   tells rule.OverDepth r k line (routine, s, v, at, there, l, b) =
       let parts = both (is_seen v.reached.items k) (passes (bytes_taken p.routines s.instr) routine.depth (depth_at v.depths.items k)) b in
-      let over = passed (bytes_taken p.routines s.instr) routine.depth (depth_at v.depths.items k) parts.1 in
-      (r, k, routine, s, at, l, (over.0, depth_at v.depths.items k, takes_by p s over.0 (is_push s.instr) refl over.1,
-      (levels.each r routine v at.among there).some k parts.0, over.2))
+      let over = passed (bytes_taken p.routines s.instr) routine.depth (depth_at v.depths.items k) parts.1 in (
+        r,
+        k,
+        routine,
+        s,
+        at,
+        l,
+        (
+          over.0,
+          depth_at v.depths.items k,
+          takes_by p s over.0 (is_push s.instr) refl over.1,
+          (levels.each r routine v at.among there).some k parts.0,
+          over.2,
+        ),
+      )
   tells rule.ReturnInStart r k line (routine, s, v, at, there, l, b) = (r, k, routine, s, at, l, both routine.start (returns (control_of s.instr)) b)
   tells rule.CodeWritten r k line (routine, s, v, at, there, l, b) = (r, k, routine, s, at, l, write_out p.image s.instr b)
 
@@ -330,9 +343,20 @@ module _ (p : Program) (all : List Levels) (levels : AreLevels p all) where
       let v = levels_of at in
       let t = levels.each r routine v.0 at.among v.1 in
       let seen : is_seen v.0.reached.items k ≡ true = seen_by (is_seen v.0.reached.items k) (λ f. t.none k f d.0 d.1.walk) in
-      let same : depth_at v.0.depths.items k ≡ depth = one_depth (graph_of p r) routine.code k (depth_at v.0.depths.items k) depth (t.some k seen) d in
-      (r, k, (routine, s, v.0, at, v.1, l, join (is_seen v.0.reached.items k) (passes (bytes_taken p.routines s.instr) routine.depth (depth_at v.0.depths.items k)) seen
-      (rw same (passed_back (bytes_taken p.routines s.instr) routine.depth n depth (takes_of p s n takes) over))))
+      let same : depth_at v.0.depths.items k ≡ depth = one_depth (graph_of p r) routine.code k (depth_at v.0.depths.items k) depth (t.some k seen) d in (
+        r,
+        k,
+        (
+          routine,
+          s,
+          v.0,
+          at,
+          v.1,
+          l,
+          join (is_seen v.0.reached.items k) (passes (bytes_taken p.routines s.instr) routine.depth (depth_at v.0.depths.items k)) seen
+              (rw same (passed_back (bytes_taken p.routines s.instr) routine.depth n depth (takes_of p s n takes) over)),
+        ),
+      )
   told rule.ReturnInStart line (r, k, routine, s, at, l, (e, n)) = (r, k, (routine, s, (levels_of at).0, at, (levels_of at).1, l, join routine.start (returns (control_of s.instr)) e n))
   told rule.CodeWritten line (r, k, routine, s, at, l, (cell, byte, c, e)) = (r, k, (routine, s, (levels_of at).0, at, (levels_of at).1, l, write_back p.image s.instr cell byte c e))
 

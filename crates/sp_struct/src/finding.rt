@@ -10,8 +10,9 @@ ghost use Rattle.sp_struct.specs.code.Lowest.{lower, Breaks, LowestSoFar};
 ghost use Rattle.sp_struct.specs.code.Rules.{breaks, bytes_taken, misuses_pointer, passes};
 
 use crate::rules::{
-    Rule, bytes_taken, call_misses, call_target, ends, is_computed, jump_misses, jump_target, jumps_to_entry,
-    loaded_pointer, loads_elsewhere, loads_other, moves_pointer, passes, returns, takes_word, writes_code,
+    Rule, bytes_taken, call_misses, call_target, ends, is_computed, jump_misses, jump_target,
+    jumps_to_entry, loaded_pointer, loads_elsewhere, loads_other, moves_pointer, passes, returns,
+    takes_word, writes_code,
 };
 use crate::stack::Levels;
 use sp_base::Line;
