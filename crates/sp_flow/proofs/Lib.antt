@@ -1,3 +1,4 @@
 pub mod AnswerLemmas
+pub mod RouteLemmas
 pub mod SetLemmas
 pub mod SpreadLemmas

@@ -4,11 +4,13 @@
 
 mod laws;
 mod refusal;
+mod routes;
 mod sets;
 mod spread;
 mod ways;
 
 pub use laws::units_have_one_answer;
 pub use refusal::{FlowKind, FlowRefusal, Spot};
+pub use routes::ways_of;
 pub use spread::unset;
 pub use ways::{Way, Ways};
