@@ -12,7 +12,7 @@ use Rattle.sp_flow.specs.declared.refusal.Spot.TheVariants as spot
 use Rattle.sp_flow.specs.Flow.{CountsBefore, IsRefusedAt, rank, number, detail}
 use Rattle.sp_prog.specs.Program.{Program}
 
-place_low : (x : Loc) → place x < 12
+pub place_low : (x : Loc) → place x < 12
 place_low loc.A = omega arith
 place_low loc.B = omega arith
 place_low loc.C = omega arith

@@ -1,11 +1,11 @@
 -- The ways on from the instructions of a routine, one instruction after another.
-use Rattle.std.proofs.Common.{◌≡◌, ◌<◌, ◌≤◌, ◌+◌, ℕ, zero, suc, arith, Bool, true, false, List, [], ◌∷◌, ◌++◌, Option, None, Some, slice_get, length, get_or, drop, refl, ap, append_assoc, ◌∙◌, sym}
+use Rattle.std.proofs.Common.{◌≡◌, ◌<◌, ◌≤◌, ◌+◌, ℕ, zero, suc, arith, Bool, true, false, List, [], ◌∷◌, ◌++◌, Option, None, Some, slice_get, length, get_or, drop, refl, ap, append_assoc, ◌∙◌}
 use Rattle.std.proofs.Math.Seq.{drop-cons}
 use Rattle.std.proofs.lemmas.List.{append-nil, drop_all}
 use Rattle.std.proofs.lemmas.Option.{slice_get_within, get_or_from_slice_get, slice_get-get_or}
 use Rattle.sp_base.specs.declared.locs.Locs.{Locs}
 use Rattle.sp_flow.specs.Routes.{ways_at, ways_by, ways_from, ways_of_code, way_on}
-use Rattle.sp_flow.specs.Unset.{Leads, way_at, way_of}
+use Rattle.sp_flow.specs.Unset.{Leads, way_of}
 use Rattle.sp_flow.specs.declared.ways.Way.{Way}
 use Rattle.sp_flow.specs.declared.ways.Ways.{Ways}
 use Rattle.sp_graph.proofs.NodeLemmas.{in_graph, length_graph, node_in, node_at}

@@ -5,6 +5,7 @@
 mod laws;
 mod refusal;
 mod routes;
+mod routine;
 mod sets;
 mod spread;
 mod ways;
@@ -12,5 +13,6 @@ mod ways;
 pub use laws::units_have_one_answer;
 pub use refusal::{FlowKind, FlowRefusal, Spot};
 pub use routes::ways_of;
+pub use routine::left_unset;
 pub use spread::unset;
 pub use ways::{Way, Ways};

@@ -88,7 +88,12 @@ fn node_at(graph: &[Node], at: usize) -> Node
 }
 
 /// The ways on from the instructions of a graph.
-fn ways_of_code(alloc: Global, routines: &[Routine], code: &[Stmt], graph: &[Node]) -> Result<Vec<Ways>, Memory>
+fn ways_of_code(
+    alloc: Global,
+    routines: &[Routine],
+    code: &[Stmt],
+    graph: &[Node],
+) -> Result<Vec<Ways>, Memory>
     requires rising { IsStrictlyIncreasing (map address_of routines.now) }
     requires valid { All (λ (s : Stmt). IsTrue (valid s.instr)) code.now }
     requires graph { graph.now ≡ graph_of_code routines.now code.now }
@@ -112,6 +117,11 @@ pub fn ways_of(alloc: Global, unit: &Unit, routine: usize) -> Result<Vec<Ways>, 
 {
     let graph = graph_of(alloc, unit, routine)?;
     let routines = unit.routines.as_slice();
-    let ways = ways_of_code(alloc, routines, routines[routine].code.as_slice(), graph.as_slice())?;
+    let ways = ways_of_code(
+        alloc,
+        routines,
+        routines[routine].code.as_slice(),
+        graph.as_slice(),
+    )?;
     Ok(ways)
 }
