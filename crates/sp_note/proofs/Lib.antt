@@ -3,6 +3,7 @@ pub mod ConditionLemmas
 pub mod ItemLemmas
 pub mod LineLemmas
 pub mod ParserLemmas
+pub mod SourceLemmas
 pub mod StackLemmas
 pub mod TakeLemmas
 pub mod WordLemmas

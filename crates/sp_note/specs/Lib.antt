@@ -5,5 +5,6 @@ pub mod Meaning
 pub mod Parts
 pub mod RawNotes
 pub mod Sorts
+pub mod Source
 pub mod Words
 pub mod code

@@ -2,6 +2,8 @@ ghost use Rattle.std.specs.Prelude.{◌≡◌, ◌≤◌, ◌<◌, length, count
 ghost use Rattle.sp_lex.specs.Reading.{AreLines};
 ghost use Rattle.sp_note.specs.code.Lines.{is_annotation, notes_of};
 ghost use Rattle.sp_note.specs.code.Source.{AnswersNotes, refusal_at};
+ghost use Rattle.sp_note.specs.Source.{AreNotes, IsUnread, IsAnswered};
+ghost use Rattle.sp_base.specs.Refused.{Answers};
 
 use crate::line::part_at;
 use crate::part::{NoteLine, Notes};
@@ -36,8 +38,8 @@ fn note_count(lines: &[SourceLine]) -> usize
     lines.iter().filter(|line| is_annotation(line)).count()
 }
 
-/// The annotation lines of a source, each with what it says. A refusal names the lowest line that isn't in the grammar.
-pub fn read_notes(alloc: Global, source: &[u8], lines: &Lines) -> Result<Notes, NoteRefusal>
+/// The annotation lines of a source, one after another.
+fn all_notes(alloc: Global, source: &[u8], lines: &Lines) -> Result<Notes, NoteRefusal>
     requires lines { AreLines source.now lines.now }
     requires short { length source.now < 4294967295 }
     ensures { AnswersNotes result (notes_of source.now lines.now) }
@@ -55,4 +57,15 @@ pub fn read_notes(alloc: Global, source: &[u8], lines: &Lines) -> Result<Notes, 
         }
     }
     Ok(Notes::from_vec(notes))
+}
+
+/// The annotation lines of a source, each with what it says. A refusal names the lowest line that isn't in the grammar.
+pub fn read_notes(alloc: Global, source: &[u8], lines: &Lines) -> Result<Notes, NoteRefusal>
+    requires lines { AreLines source.now lines.now }
+    requires short { length source.now < 4294967295 }
+    ensures right { Answers (AreNotes source.now lines.now) (IsUnread source.now lines.now) result }
+    // Each source whose lines have annotations is answered by them, and each refused line is named, unless memory runs out.
+    ensures complete { IsAnswered source.now lines.now result }
+{
+    all_notes(alloc, source, lines)
 }
