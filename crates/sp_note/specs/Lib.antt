@@ -1,5 +1,6 @@
 pub mod Bounds
 pub mod Conditions
+pub mod Examples
 pub mod Grammar
 pub mod Meaning
 pub mod Parts
