@@ -1,4 +1,5 @@
 pub mod AnswerLemmas
+pub mod ExampleLemmas
 pub mod RouteLemmas
 pub mod SetLemmas
 pub mod SpreadLemmas

@@ -1,3 +1,4 @@
+pub mod Examples
 pub mod Flow
 pub mod Routes
 pub mod Unset
