@@ -1,5 +1,5 @@
 -- Units of one instruction that keep all rules on flow, or break one.
-use Rattle.std.proofs.Common.{◌≡◌, ◌≢◌, ◌<◌, ◌+◌, ℕ, zero, suc, ◌⊎◌, inl, inr, arith, refl, ap, sym, ◌∙◌, Bool, true, false, true≢false, List, [], ◌∷◌, Option, None, Some, slice_get, length, subst}
+use Rattle.std.proofs.Common.{◌≡◌, ◌≢◌, ◌<◌, ◌+◌, ℕ, zero, suc, ◌⊎◌, inl, inr, arith, refl, ap, sym, ◌∙◌, Bool, true, false, true≢false, List, [], ◌∷◌, Option, None, Some, slice_get, length, subst, ◌≤◌, get_or}
 use Rattle.std.specs.Prelude.{Contains, IsTrue}
 use Rattle.sp_base.specs.declared.location.Loc.{Loc}
 use Rattle.sp_base.specs.declared.location.Loc.TheVariants as loc
@@ -10,7 +10,7 @@ use Rattle.sp_flow.specs.declared.refusal.FlowKind.{FlowKind}
 use Rattle.sp_flow.specs.declared.refusal.FlowKind.TheVariants as kind
 use Rattle.sp_flow.specs.declared.refusal.Spot.{Spot}
 use Rattle.sp_flow.specs.declared.refusal.Spot.TheVariants as spot
-use Rattle.sp_flow.specs.Examples.{unit, routine, cells}
+use Rattle.sp_flow.specs.Examples.{unit, routine, cells, lists}
 use Rattle.sp_flow.specs.Flow.{IsBroken, IsFlowing, IsListed, IsCallee, MayRead, cells_read, cells_written, ports_in, ports_out}
 use Rattle.sp_flow.specs.Unset.WalkTo.{entry}
 use Rattle.sp_graph.specs.Control.{control_of}
@@ -19,6 +19,7 @@ use Rattle.sp_isa.specs.Locations.{reads}
 use Rattle.sp_isa.specs.declared.instr.Instr.{Instr}
 use Rattle.sp_isa.specs.declared.instr.Instr.TheVariants.{Lhld, Cmc, In}
 use Rattle.sp_prog.specs.declared.area.Area.{Area}
+use Rattle.sp_prog.specs.declared.routine.Lists.{Lists}
 use Rattle.sp_prog.specs.declared.routine.Routine.{Routine}
 use Rattle.sp_prog.specs.declared.routine.Stmt.{Stmt}
 
@@ -88,3 +89,60 @@ carry_listed = keeps_all Cmc 1 (only loc.Cy) [] [] refl none_in none_in carry_se
 
 pub port_listed : IsFlowing (unit (In 5) 1 none [] (5 ∷ []))
 port_listed = keeps_all (In 5) 1 none [] (5 ∷ []) refl none_in none_in (nothing_used none) (λ cell c. absurd (none_in cell c)) (λ port c. c)
+
+-- each listed cell stands below the end of the only area
+in_cells : (i : Instr) (len : ℕ) (locs : Locs) (places ports : List ℕ) (l : Lists) (cell : ℕ) → IsListed (unit i len locs places ports) l cell → cell < 0x2000 + len
+in_cells i len locs places ports l cell (at, area, c, get, within) =
+    let is = only_one (cells len) area at get in
+    subst (λ (v : Area). cell < v.addr + v.len) (sym is.1) within.1
+
+not_in_none : (i : Instr) (len : ℕ) (locs : Locs) (places ports : List ℕ) (l : Lists) (cell : ℕ) → l.areas ≡ [] → IsListed (unit i len locs places ports) l cell → ⊥
+not_in_none i len locs places ports l cell e (at, area, c, get, within) =
+    none_in at (subst (λ (xs : List ℕ). Contains xs at) e c)
+
+pub carry : IsBroken (unit Cmc 1 none [] []) 6 (kind.Uses (spot.Loc loc.Cy))
+unfolding has only
+carry =
+    (0, 0, routine Cmc none [] [], _, record { among = refl; within = refl }, refl,
+    (refl, (has_none loc.Cy, ([], entry, λ s c. absurd (none_in s c)))))
+
+pub second_cell : IsBroken (unit (Lhld 0x2000) 1 none (0 ∷ []) []) 6 (kind.Uses (spot.Cell 0x2001))
+second_cell =
+    (0, 0, routine (Lhld 0x2000) none (0 ∷ []) [], _, record { among = refl; within = refl }, refl,
+    ((1, omega arith, refl), λ may. elim may as (λ o. ⊥) [
+      | inl l ↦ let low = in_cells (Lhld 0x2000) 1 none (0 ∷ []) [] (lists none (0 ∷ [])) 0x2001 l in omega (arith, low)
+      | inr l ↦ not_in_none (Lhld 0x2000) 1 none (0 ∷ []) [] (lists none []) 0x2001 refl l
+    ]))
+
+pub area_not_listed : IsBroken (unit (Lhld 0x2000) 2 none [] []) 6 (kind.Uses (spot.Cell 0x2000))
+area_not_listed =
+    (0, 0, routine (Lhld 0x2000) none [] [], _, record { among = refl; within = refl }, refl,
+    ((0, omega arith, refl), λ may. elim may as (λ o. ⊥) [
+      | inl l ↦ not_in_none (Lhld 0x2000) 2 none [] [] (lists none []) 0x2000 refl l
+      | inr l ↦ not_in_none (Lhld 0x2000) 2 none [] [] (lists none []) 0x2000 refl l
+    ]))
+
+pub port : IsBroken (unit (In 5) 1 none [] (4 ∷ [])) 6 (kind.Port 5)
+port =
+    (0, 0, routine (In 5) none [] (4 ∷ []), _, record { among = refl; within = refl }, refl,
+    inl (inl (0, omega arith, refl), λ c. let e = only_four 5 c in omega (arith, e)))
+  where
+    only_four : (x : ℕ) → Contains (4 ∷ []) x → x ≡ 4
+    only_four x c = sym (only_here c.0 c.1 c.2)
+      where
+        only_here : (k : ℕ) → k < 1 → get_or (4 ∷ []) k x ≡ x → 4 ≡ x
+        only_here zero l e = e
+        only_here (suc k) l e = absurd (omega (arith, l))
+
+word_cell : (cell : ℕ) → Contains (cells_read (Lhld 0x2000)) cell → (0x2000 ≤ cell) × (cell < 0x2002)
+word_cell cell c = bounds c.0 c.1 c.2
+  where
+    bounds : (k : ℕ) → k < 2 → get_or (cells_read (Lhld 0x2000)) k cell ≡ cell → (0x2000 ≤ cell) × (cell < 0x2002)
+    bounds zero l e = (omega (arith, e), omega (arith, e))
+    bounds (suc zero) l e = (omega (arith, e), omega (arith, e))
+    bounds (suc (suc k)) l e = absurd (omega (arith, l))
+
+pub both_cells : IsFlowing (unit (Lhld 0x2000) 2 none (0 ∷ []) [])
+both_cells =
+    keeps_all (Lhld 0x2000) 2 none (0 ∷ []) [] refl none_in none_in (nothing_used none)
+    (λ cell c. inl (0, cells 2, (0, omega arith, refl), refl, word_cell cell c)) (λ port c. absurd (none_in port c))

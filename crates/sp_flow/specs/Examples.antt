@@ -41,7 +41,12 @@ cells len = record { name = codes "CELLS"; kind = area.Bytes; addr = 0x2000; len
 abbrev pub unit : Instr → ℕ → Locs → List ℕ → List ℕ → Program
 unit i len locs places ports = program maps.empty 0x2300 0x23FF (cells len ∷ []) (routine i locs places ports ∷ [])
 
--- CMC uses CY, which nothing sets, unless CY is in `reads`; IN takes from its port
+-- CMC uses CY, which nothing sets, unless CY is in `reads`; LHLD reads two cells; IN takes from its port
 pub record FlowsByExample : Type 0 where
+  pub carry : IsBroken (unit Cmc 1 none [] []) 6 (kind.Uses (spot.Loc loc.Cy))
   pub carry_listed : IsFlowing (unit Cmc 1 (only loc.Cy) [] [])
+  pub second_cell : IsBroken (unit (Lhld 0x2000) 1 none (0 ∷ []) []) 6 (kind.Uses (spot.Cell 0x2001))
+  pub both_cells : IsFlowing (unit (Lhld 0x2000) 2 none (0 ∷ []) [])
+  pub area_not_listed : IsBroken (unit (Lhld 0x2000) 2 none [] []) 6 (kind.Uses (spot.Cell 0x2000))
+  pub port : IsBroken (unit (In 5) 1 none [] (4 ∷ [])) 6 (kind.Port 5)
   pub port_listed : IsFlowing (unit (In 5) 1 none [] (5 ∷ []))
