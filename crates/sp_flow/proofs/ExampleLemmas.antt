@@ -1,20 +1,18 @@
 -- Units of one instruction that keep all rules on flow, or break one.
-use Rattle.std.proofs.Common.{◌≡◌, ◌≢◌, ◌<◌, ◌+◌, ℕ, zero, suc, ◌⊎◌, inl, inr, arith, refl, ap, sym, ◌∙◌, Bool, true, false, true≢false, List, [], ◌∷◌, Option, None, Some, slice_get, length, subst, ◌≤◌, get_or}
+use Rattle.std.proofs.Common.{◌≡◌, ◌<◌, ◌+◌, ℕ, zero, suc, inl, inr, arith, refl, ap, sym, ◌∙◌, false, true≢false, List, [], ◌∷◌, None, Some, slice_get, subst, ◌≤◌, get_or}
 use Rattle.std.specs.Prelude.{Contains, IsTrue}
 use Rattle.sp_base.specs.declared.location.Loc.{Loc}
 use Rattle.sp_base.specs.declared.location.Loc.TheVariants as loc
 use Rattle.sp_base.specs.declared.locs.Locs.{Locs}
-use Rattle.sp_base.specs.Locs.{none, only, has, place}
+use Rattle.sp_base.specs.Locs.{none, only, has}
 use Rattle.sp_base.proofs.LocsLaws.{has_none}
-use Rattle.sp_flow.specs.declared.refusal.FlowKind.{FlowKind}
 use Rattle.sp_flow.specs.declared.refusal.FlowKind.TheVariants as kind
-use Rattle.sp_flow.specs.declared.refusal.Spot.{Spot}
 use Rattle.sp_flow.specs.declared.refusal.Spot.TheVariants as spot
 use Rattle.sp_flow.specs.Examples.{unit, routine, cells, lists}
 use Rattle.sp_flow.specs.Flow.{IsBroken, IsFlowing, IsListed, IsCallee, MayRead, cells_read, cells_written, ports_in, ports_out}
 use Rattle.sp_flow.specs.Unset.WalkTo.{entry}
 use Rattle.sp_graph.specs.Control.{control_of}
-use Rattle.sp_graph.specs.Structure.{OnLine, IsAt, IsCallOf, call_target}
+use Rattle.sp_graph.specs.Structure.{OnLine, call_target}
 use Rattle.sp_isa.specs.Locations.{reads}
 use Rattle.sp_isa.specs.declared.instr.Instr.{Instr}
 use Rattle.sp_isa.specs.declared.instr.Instr.TheVariants.{Lhld, Cmc, In}
@@ -58,25 +56,25 @@ module _ (i : Instr) (len : ℕ) (locs : Locs) (places ports : List ℕ) where
         (cells_listed : (cell : ℕ) → Contains (cells_read i) cell → MayRead (unit i len locs places ports) (routine i locs places ports) cell)
         (ports_listed : (port : ℕ) → Contains (ports_in i) port → Contains ports port)
       where
-      pub keeps_all : IsFlowing (unit i len locs places ports)
-      keeps_all line (kind.Uses (spot.Loc x)) b =
-          let f = at_first line _ b in set_or_listed x (rw f.1 at f.2.0) f.2.1.0
-      keeps_all line (kind.Uses (spot.Cell cell)) b =
-          let f = at_first line _ b in f.2.1 (cells_listed cell (rw f.1 at f.2.0))
-      keeps_all line (kind.Writes cell) b =
-          let f = at_first line _ b in
-          elim f.2.0 as (λ o. ⊥) [ inl c ↦ no_writes cell (rw f.1 at c) | inr c ↦ no_callee f.0 c.0 f.1 c.1 ]
-      keeps_all line (kind.Port port) b =
-          let f = at_first line _ b in
-          elim f.2 as (λ o. ⊥) [
-            | inl taken ↦ elim taken.0 as (λ o. ⊥)
-                [ inl c ↦ taken.1 (ports_listed port (rw f.1 at c)) | inr c ↦ no_callee f.0 c.0 f.1 c.1 ]
-            | inr put ↦ elim put.0 as (λ o. ⊥) [ inl c ↦ no_outs port (rw f.1 at c) | inr c ↦ no_callee f.0 c.0 f.1 c.1 ]
-          ]
-      keeps_all line (kind.CallsReads (spot.Loc x)) b =
-          let f = at_first line _ b in no_callee f.0 f.2.0 f.1 f.2.1
-      keeps_all line (kind.CallsReads (spot.Cell cell)) b =
-          let f = at_first line _ b in no_callee f.0 f.2.0 f.1 f.2.1
+        pub keeps_all : IsFlowing (unit i len locs places ports)
+        keeps_all line (kind.Uses (spot.Loc x)) b =
+            let f = at_first line _ b in set_or_listed x (rw f.1 at f.2.0) f.2.1.0
+        keeps_all line (kind.Uses (spot.Cell cell)) b =
+            let f = at_first line _ b in f.2.1 (cells_listed cell (rw f.1 at f.2.0))
+        keeps_all line (kind.Writes cell) b =
+            let f = at_first line _ b in
+            elim f.2.0 as (λ o. ⊥) [ inl c ↦ no_writes cell (rw f.1 at c) | inr c ↦ no_callee f.0 c.0 f.1 c.1 ]
+        keeps_all line (kind.Port port) b =
+            let f = at_first line _ b in
+            elim f.2 as (λ o. ⊥) [
+              | inl taken ↦ elim taken.0 as (λ o. ⊥)
+                  [ inl c ↦ taken.1 (ports_listed port (rw f.1 at c)) | inr c ↦ no_callee f.0 c.0 f.1 c.1 ]
+              | inr put ↦ elim put.0 as (λ o. ⊥) [ inl c ↦ no_outs port (rw f.1 at c) | inr c ↦ no_callee f.0 c.0 f.1 c.1 ]
+            ]
+        keeps_all line (kind.CallsReads (spot.Loc x)) b =
+            let f = at_first line _ b in no_callee f.0 f.2.0 f.1 f.2.1
+        keeps_all line (kind.CallsReads (spot.Cell cell)) b =
+            let f = at_first line _ b in no_callee f.0 f.2.0 f.1 f.2.1
 
 carry_set : (x : Loc) → IsTrue (has x (only loc.Cy)) → has x (only loc.Cy) ≡ false → ⊥
 carry_set x a b = true≢false (sym a ∙ b)
@@ -102,30 +100,60 @@ not_in_none i len locs places ports l cell e (at, area, c, get, within) =
 
 pub carry : IsBroken (unit Cmc 1 none [] []) 6 (kind.Uses (spot.Loc loc.Cy))
 unfolding has only
-carry =
-    (0, 0, routine Cmc none [] [], _, record { among = refl; within = refl }, refl,
-    (refl, (has_none loc.Cy, ([], entry, λ s c. absurd (none_in s c)))))
+carry = (
+  0,
+  0,
+  routine Cmc none [] [],
+  _,
+  record { among = refl; within = refl },
+  refl,
+  (refl, (has_none loc.Cy, ([], entry, λ s c. absurd (none_in s c)))),
+)
 
 pub second_cell : IsBroken (unit (Lhld 0x2000) 1 none (0 ∷ []) []) 6 (kind.Uses (spot.Cell 0x2001))
-second_cell =
-    (0, 0, routine (Lhld 0x2000) none (0 ∷ []) [], _, record { among = refl; within = refl }, refl,
-    ((1, omega arith, refl), λ may. elim may as (λ o. ⊥) [
+second_cell = (
+  0,
+  0,
+  routine (Lhld 0x2000) none (0 ∷ []) [],
+  _,
+  record { among = refl; within = refl },
+  refl,
+  (
+    (1, omega arith, refl),
+    λ may. elim may as (λ o. ⊥) [
       | inl l ↦ let low = in_cells (Lhld 0x2000) 1 none (0 ∷ []) [] (lists none (0 ∷ [])) 0x2001 l in omega (arith, low)
       | inr l ↦ not_in_none (Lhld 0x2000) 1 none (0 ∷ []) [] (lists none []) 0x2001 refl l
-    ]))
+    ],
+  ),
+)
 
 pub area_not_listed : IsBroken (unit (Lhld 0x2000) 2 none [] []) 6 (kind.Uses (spot.Cell 0x2000))
-area_not_listed =
-    (0, 0, routine (Lhld 0x2000) none [] [], _, record { among = refl; within = refl }, refl,
-    ((0, omega arith, refl), λ may. elim may as (λ o. ⊥) [
+area_not_listed = (
+  0,
+  0,
+  routine (Lhld 0x2000) none [] [],
+  _,
+  record { among = refl; within = refl },
+  refl,
+  (
+    (0, omega arith, refl),
+    λ may. elim may as (λ o. ⊥) [
       | inl l ↦ not_in_none (Lhld 0x2000) 2 none [] [] (lists none []) 0x2000 refl l
       | inr l ↦ not_in_none (Lhld 0x2000) 2 none [] [] (lists none []) 0x2000 refl l
-    ]))
+    ],
+  ),
+)
 
 pub port : IsBroken (unit (In 5) 1 none [] (4 ∷ [])) 6 (kind.Port 5)
-port =
-    (0, 0, routine (In 5) none [] (4 ∷ []), _, record { among = refl; within = refl }, refl,
-    inl (inl (0, omega arith, refl), λ c. let e = only_four 5 c in omega (arith, e)))
+port = (
+  0,
+  0,
+  routine (In 5) none [] (4 ∷ []),
+  _,
+  record { among = refl; within = refl },
+  refl,
+  inl (inl (0, omega arith, refl), λ c. let e = only_four 5 c in omega (arith, e)),
+)
   where
     only_four : (x : ℕ) → Contains (4 ∷ []) x → x ≡ 4
     only_four x c = sym (only_here c.0 c.1 c.2)
