@@ -26,12 +26,12 @@ only_one : {A : Type 0} (x y : A) (k : ℕ) → slice_get (x ∷ []) k ≡ Some 
 only_one x y zero e = (refl, cc)
 only_one x y (suc k) e = absurd cc
 
-none_in : {A : Type 0} (y : A) → Contains [] y → ⊥
+pub none_in : {A : Type 0} (y : A) → Contains [] y → ⊥
 none_in y c = omega (arith, c.1)
 
 module _ (i : Instr) (len : ℕ) (locs : Locs) (places ports : List ℕ) where
   -- the routine and the instruction of such a unit
-  at_first :
+  pub at_first :
       (line : ℕ) (Breaks : ℕ → Routine → ℕ → Stmt → Type 0) → OnLine (unit i len locs places ports) line Breaks →
       (s : Stmt) × (s.instr ≡ i) × Breaks 0 (routine i locs places ports) 0 s
   at_first line Breaks (r, k, q, s, is, on, breaks) =
@@ -43,9 +43,18 @@ module _ (i : Instr) (len : ℕ) (locs : Locs) (places ports : List ℕ) where
       let of_q : Breaks r (routine i locs places ports) 0 s = subst (λ (v : Routine). Breaks r v 0 s) (sym first.1) at_k in
       (s, ap (λ (x : Stmt). x.instr) (sym here.1), subst (λ (n : ℕ). Breaks n (routine i locs places ports) 0 s) first.0 of_q)
 
+  -- which stands on line 6
+  pub on_line : (line : ℕ) (Breaks : ℕ → Routine → ℕ → Stmt → Type 0) → OnLine (unit i len locs places ports) line Breaks → line ≡ 6
+  on_line line Breaks (r, k, q, s, is, on, breaks) =
+      let first = only_one (routine i locs places ports) q r is.among in
+      let within : slice_get (routine i locs places ports).code k ≡ Some s =
+      subst (λ (v : Routine). slice_get v.code k ≡ Some s) (sym first.1) is.within in
+      let here = only_one _ s k within in
+      sym (ap (λ (x : Stmt). x.line.0) here.1 ∙ on)
+
   -- such an instruction calls nothing
   module _ (alone : call_target (control_of i) ≡ None) where
-    no_callee : (s : Stmt) (callee : Routine) → s.instr ≡ i → IsCallee (unit i len locs places ports) s callee → ⊥
+    pub no_callee : (s : Stmt) (callee : Routine) → s.instr ≡ i → IsCallee (unit i len locs places ports) s callee → ⊥
     no_callee s callee e (c, (a, target, at), get) =
         let found : call_target (control_of i) ≡ Some a = rw e at target in absurd cc
 
@@ -94,7 +103,7 @@ in_cells i len locs places ports l cell (at, area, c, get, within) =
     let is = only_one (cells len) area at get in
     subst (λ (v : Area). cell < v.addr + v.len) (sym is.1) within.1
 
-not_in_none : (i : Instr) (len : ℕ) (locs : Locs) (places ports : List ℕ) (l : Lists) (cell : ℕ) → l.areas ≡ [] → IsListed (unit i len locs places ports) l cell → ⊥
+pub not_in_none : (i : Instr) (len : ℕ) (locs : Locs) (places ports : List ℕ) (l : Lists) (cell : ℕ) → l.areas ≡ [] → IsListed (unit i len locs places ports) l cell → ⊥
 not_in_none i len locs places ports l cell e (at, area, c, get, within) =
     none_in at (subst (λ (xs : List ℕ). Contains xs at) e c)
 

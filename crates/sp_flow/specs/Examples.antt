@@ -6,9 +6,9 @@ use Rattle.sp_base.specs.declared.locs.Locs.{Locs}
 use Rattle.sp_base.specs.Locs.{none, only}
 use Rattle.sp_flow.specs.declared.refusal.FlowKind.TheVariants as kind
 use Rattle.sp_flow.specs.declared.refusal.Spot.TheVariants as spot
-use Rattle.sp_flow.specs.Flow.{IsBroken, IsFlowing}
+use Rattle.sp_flow.specs.Flow.{IsBroken, IsFlowing, IsRefusedAt}
 use Rattle.sp_isa.specs.declared.instr.Instr.{Instr}
-use Rattle.sp_isa.specs.declared.instr.Instr.TheVariants.{Lhld, Cmc, In}
+use Rattle.sp_isa.specs.declared.instr.Instr.TheVariants.{Lhld, Sta, Cmc, In}
 use Rattle.sp_prog.specs.declared.area.Area.{Area}
 use Rattle.sp_prog.specs.declared.area.AreaKind.TheVariants as area
 use Rattle.sp_prog.specs.declared.routine.Lists.{Lists}
@@ -50,3 +50,8 @@ pub record FlowsByExample : Type 0 where
   pub area_not_listed : IsBroken (unit (Lhld 0x2000) 2 none [] []) 6 (kind.Uses (spot.Cell 0x2000))
   pub port : IsBroken (unit (In 5) 1 none [] (4 ∷ [])) 6 (kind.Port 5)
   pub port_listed : IsFlowing (unit (In 5) 1 none [] (5 ∷ []))
+
+-- STA of a cell that isn't listed: A counts before the cell, where A isn't in `reads`
+pub record KindsComeInOrder : Type 0 where
+  pub uses : IsRefusedAt (unit (Sta 0x2000) 1 none [] []) 6 (kind.Uses (spot.Loc loc.A))
+  pub writes : IsRefusedAt (unit (Sta 0x2000) 1 (only loc.A) [] []) 6 (kind.Writes 0x2000)

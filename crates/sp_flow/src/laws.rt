@@ -1,4 +1,4 @@
-ghost use Rattle.sp_flow.specs.Examples.{FlowsByExample};
+ghost use Rattle.sp_flow.specs.Examples.{FlowsByExample, KindsComeInOrder};
 ghost use Rattle.sp_flow.specs.Flow.{HasOneAnswer};
 ghost use Rattle.sp_prog.specs.Program.{Program};
 
@@ -10,4 +10,9 @@ pub fn units_have_one_answer()
 /// Units of one instruction that break a rule, and twins that keep all.
 pub fn units_flow_by_example()
     ensures { FlowsByExample }
+{}
+
+/// The kinds come in their order, and a location in `reads` isn't asked for.
+pub fn kinds_come_in_order()
+    ensures { KindsComeInOrder }
 {}

@@ -10,7 +10,7 @@ mod sets;
 mod spread;
 mod ways;
 
-pub use laws::{units_flow_by_example, units_have_one_answer};
+pub use laws::{kinds_come_in_order, units_flow_by_example, units_have_one_answer};
 pub use refusal::{FlowKind, FlowRefusal, Spot};
 pub use routes::ways_of;
 pub use routine::left_unset;
