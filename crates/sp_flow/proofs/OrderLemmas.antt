@@ -1,25 +1,18 @@
 -- The first rule that a unit of one instruction breaks.
-use Rattle.std.proofs.Common.{◌≡◌, ◌<◌, ℕ, zero, suc, ◌⊎◌, inl, inr, arith, refl, ap, sym, ◌∙◌, true≢false, false, List, [], ◌∷◌, None, Some, slice_get, get_or, subst}
+use Rattle.std.proofs.Common.{◌≡◌, ◌<◌, ℕ, zero, suc, inl, inr, arith, refl, sym, ◌∙◌, true≢false, false, [], ◌∷◌, get_or}
 use Rattle.std.specs.Prelude.{Contains, IsTrue, ⊤}
-use Rattle.sp_base.specs.declared.location.Loc.{Loc}
 use Rattle.sp_base.specs.declared.location.Loc.TheVariants as loc
 use Rattle.sp_base.specs.declared.locs.Locs.{Locs}
-use Rattle.sp_base.specs.Locs.{none, only, has, place}
+use Rattle.sp_base.specs.Locs.{none, only, has}
 use Rattle.sp_base.proofs.LocsLaws.{has_none}
 use Rattle.sp_flow.specs.declared.refusal.FlowKind.{FlowKind}
 use Rattle.sp_flow.specs.declared.refusal.FlowKind.TheVariants as kind
-use Rattle.sp_flow.specs.declared.refusal.Spot.{Spot}
 use Rattle.sp_flow.specs.declared.refusal.Spot.TheVariants as spot
 use Rattle.sp_flow.specs.Examples.{unit, routine, lists}
-use Rattle.sp_flow.specs.Flow.{IsBroken, IsRefusedAt, CountsBefore, cells_read, cells_written, rank, detail}
+use Rattle.sp_flow.specs.Flow.{IsBroken, IsRefusedAt, CountsBefore}
 use Rattle.sp_flow.specs.Unset.WalkTo.{entry}
 use Rattle.sp_flow.proofs.ExampleLemmas.{at_first, on_line, no_callee, none_in, not_in_none}
-use Rattle.sp_graph.specs.Structure.{OnLine}
-use Rattle.sp_isa.specs.Locations.{reads}
-use Rattle.sp_isa.specs.declared.instr.Instr.{Instr}
 use Rattle.sp_isa.specs.declared.instr.Instr.TheVariants.{Sta}
-use Rattle.sp_prog.specs.declared.routine.Routine.{Routine}
-use Rattle.sp_prog.specs.declared.routine.Stmt.{Stmt}
 
 -- what STA can break: a location that isn't in `reads`, or its cell
 abbrev Facts : Locs → FlowKind → Type 0
@@ -36,11 +29,13 @@ module _ (locs : Locs) where
       let f = at_first (Sta 0x2000) 1 locs [] [] line _ b in
       absurd (none_in cell (rw f.1 at f.2.0))
   broken_is line (kind.Writes cell) b =
-      let f = at_first (Sta 0x2000) 1 locs [] [] line _ b in
-      (on_line (Sta 0x2000) 1 locs [] [] line _ b, elim f.2.0 as (λ o. Contains (0x2000 ∷ []) cell) [
-        | inl c ↦ rw f.1 at c
-        | inr c ↦ absurd (no_callee (Sta 0x2000) 1 locs [] [] refl f.0 c.0 f.1 c.1)
-      ])
+      let f = at_first (Sta 0x2000) 1 locs [] [] line _ b in (
+        on_line (Sta 0x2000) 1 locs [] [] line _ b,
+        elim f.2.0 as (λ o. Contains (0x2000 ∷ []) cell) [
+          | inl c ↦ rw f.1 at c
+          | inr c ↦ absurd (no_callee (Sta 0x2000) 1 locs [] [] refl f.0 c.0 f.1 c.1)
+        ],
+      )
   broken_is line (kind.Port port) b = (on_line (Sta 0x2000) 1 locs [] [] line _ b, tt)
   broken_is line (kind.CallsReads (spot.Loc x)) b = (on_line (Sta 0x2000) 1 locs [] [] line _ b, tt)
   broken_is line (kind.CallsReads (spot.Cell cell)) b = (on_line (Sta 0x2000) 1 locs [] [] line _ b, tt)
@@ -74,14 +69,26 @@ none_before_writes there (kind.CallsReads s) e f before =
 
 uses_broken : IsBroken (unit (Sta 0x2000) 1 none [] []) 6 (kind.Uses (spot.Loc loc.A))
 unfolding has only
-uses_broken =
-    (0, 0, routine (Sta 0x2000) none [] [], _, record { among = refl; within = refl }, refl,
-    (refl, (has_none loc.A, ([], entry, λ s c. absurd (none_in s c)))))
+uses_broken = (
+  0,
+  0,
+  routine (Sta 0x2000) none [] [],
+  _,
+  record { among = refl; within = refl },
+  refl,
+  (refl, (has_none loc.A, ([], entry, λ s c. absurd (none_in s c)))),
+)
 
 writes_broken : IsBroken (unit (Sta 0x2000) 1 (only loc.A) [] []) 6 (kind.Writes 0x2000)
-writes_broken =
-    (0, 0, routine (Sta 0x2000) (only loc.A) [] [], _, record { among = refl; within = refl }, refl,
-    (inl (0, omega arith, refl), λ l. not_in_none (Sta 0x2000) 1 (only loc.A) [] [] (lists none []) 0x2000 refl l))
+writes_broken = (
+  0,
+  0,
+  routine (Sta 0x2000) (only loc.A) [] [],
+  _,
+  record { among = refl; within = refl },
+  refl,
+  (inl (0, omega arith, refl), λ l. not_in_none (Sta 0x2000) 1 (only loc.A) [] [] (lists none []) 0x2000 refl l),
+)
 
 pub uses_first : IsRefusedAt (unit (Sta 0x2000) 1 none [] []) 6 (kind.Uses (spot.Loc loc.A))
 uses_first = record {
