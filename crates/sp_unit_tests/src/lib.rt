@@ -1,0 +1,5 @@
+//! The rules of units against sources with known answers. It has tests alone, so that these rules are proved once.
+#![tactic(auto)]
+
+#[cfg(test)]
+mod tests;
