@@ -117,9 +117,9 @@ module _ (graph : List Node) (seen : List Bool) (order up : List ℕ) (head : �
 
     -- when all places of the order are told
     pub all_told : (depths : List ℤ) (next : ℕ) → TellsFirst graph code walk_of order depths next → length order ≤ next →
-        length code ≡ length graph → Closed graph order up (length order) → Grown graph seen order up (length order) →
+        length code ≡ length graph → length code ≤ 65536 → Closed graph order up (length order) → Grown graph seen order up (length order) →
         TellsDepths graph code seen depths
-    all_told depths next t past size closed whole = record {
+    all_told depths next t past size few closed whole = record {
       size = t.size ∙ sym size;
       marks = g.marks ∙ sym size;
       some = λ at e.
@@ -132,4 +132,14 @@ module _ (graph : List Node) (seen : List Bool) (order up : List ℕ) (head : �
           let m = g.marked k.0 k.1 in
           let m_at : get_or seen at false ≡ true = rw k.2 at m in
           cc (m_at, e);
+      small = λ at e.
+          let k = g.listed at e in
+          let lk : k.0 < length order = k.1 in
+          let p = t.placed k.0 (omega arith) in
+          let fits = depth_fits k.0 lk in
+          let many = order_few in
+          let low : pos 0 ≤ℤ (depth_along code (walk_of k.0) +ℤ pos 131072) = omega (arith, ints, fits.0, many, size, few, lk) in
+          let high : depth_along code (walk_of k.0) ≤ℤ pos 131072 = omega (arith, ints, fits.1, many, size, few, lk) in
+          let both : (pos 0 ≤ℤ (depth_along code (walk_of k.0) +ℤ pos 131072)) × (depth_along code (walk_of k.0) ≤ℤ pos 131072) = (low, high) in
+          rw k.2 at (rw (← p) at both);
     }

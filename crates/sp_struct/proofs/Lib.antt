@@ -1,5 +1,6 @@
 pub mod BreadthLemmas
 pub mod DepthLemmas
+pub mod GapLemmas
 pub mod HeaderLemmas
 pub mod LeastLemmas
 pub mod LevelLemmas

@@ -109,7 +109,7 @@ module _ (P : ℕ → ℕ → ℕ → Type 0) where
     all_done all = record { found = so_far.found; least = λ i j line h. so_far.least i j line h (inl (all i j line h)) }
 
 -- one instruction stands at a place
-same_at : (p : Program) (r k : ℕ) (a b : Routine) (s t : Stmt) → IsAt p r k a s → IsAt p r k b t → (a ≡ b) × (s ≡ t)
+pub same_at : (p : Program) (r k : ℕ) (a b : Routine) (s t : Stmt) → IsAt p r k a s → IsAt p r k b t → (a ≡ b) × (s ≡ t)
 same_at p r k a b s t x y =
     let routines : a ≡ b = let m = x.among in let n = y.among in cc (m, n) in
     let other : slice_get b.code k ≡ Some s = rw (← routines) x.within in

@@ -1,8 +1,9 @@
 -- The rules that look at one instruction, by name.
-use Rattle.std.specs.Prelude.{◌≡◌, ◌≤◌, ℕ, Option, Some}
+use Rattle.std.specs.Prelude.{◌≡◌, ◌≤◌, ℕ, ℤ, Option, Some}
 use Rattle.sp_base.specs.declared.line.Line.{Line}
-use Rattle.sp_graph.specs.Structure.{JumpsOut, FallsOff, CallsOut, Computes, MovesPointer, IsUnreached, PopsReturn, TakesTooMuch, ReturnsInStart, WritesCode}
+use Rattle.sp_graph.specs.Structure.{JumpsOut, FallsOff, CallsOut, Computes, MovesPointer, IsUnreached, PopsReturn, TakesTooMuch, ReturnsInStart, WritesCode, DiffersInDepth}
 use Rattle.sp_prog.specs.Program.{Program}
+use Rattle.sp_struct.specs.declared.differences.Difference.{Difference}
 use Rattle.sp_struct.specs.declared.rules.Rule.{Rule}
 use Rattle.sp_struct.specs.declared.rules.Rule.TheVariants as rule
 
@@ -23,3 +24,8 @@ IsBroken p rule.CodeWritten = WritesCode p
 pub record IsLowestLine (Q : ℕ → Type 0) (best : Option Line) : Type 0 where
   pub found : (line : Line) → best ≡ Some line → Q line.0
   pub least : (line : ℕ) → Q line → (b : Line) × (best ≡ Some b) × (b.0 ≤ line)
+
+-- the lowest line on which depths differ, with two that do; none where there is none
+pub record IsLowestDifference (p : Program) (best : Option Difference) : Type 0 where
+  pub found : (d : Difference) → best ≡ Some d → DiffersInDepth p d.line.0 d.after d.other
+  pub least : (line : ℕ) (a b : ℤ) → DiffersInDepth p line a b → (d : Difference) × (best ≡ Some d) × (d.line.0 ≤ line)

@@ -16,12 +16,13 @@ pub struct Reached {
 
 /// The successors of an instruction, the lower one first.
 #[derive(Clone, Copy)]
-struct Pair {
-    low: Option<usize>,
-    high: Option<usize>,
+pub struct Pair {
+    pub low: Option<usize>,
+    pub high: Option<usize>,
 }
 
-fn successors(graph: &[Node], at: usize) -> Pair
+/// The instructions at which an instruction goes on.
+pub fn successors(graph: &[Node], at: usize) -> Pair
     ensures all { (to : ℕ) → Successor graph.now at to ↔ ((result.low ≡ Some to) ⊎ (result.high ≡ Some to)) }
     ensures rising { (a b : ℕ) → result.low ≡ Some a → result.high ≡ Some b → a ≤ b }
 {

@@ -4,6 +4,7 @@
 
 mod breadth;
 mod cycles;
+mod differences;
 mod finding;
 mod headers;
 mod laws;
@@ -13,6 +14,7 @@ mod unit_levels;
 
 pub use breadth::{Reached, least_walks};
 pub use cycles::uncut;
+pub use differences::{Difference, Gap, lowest_difference};
 pub use finding::lowest;
 pub use headers::lowest_header;
 pub use laws::depths_are_one;

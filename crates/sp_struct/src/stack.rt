@@ -23,7 +23,7 @@ pub fn effect(instr: &Instr) -> i64
 }
 
 /// The depth after an instruction, from that before it.
-fn deeper(stmt: &Stmt, depth: i64) -> i64
+pub fn deeper(stmt: &Stmt, depth: i64) -> i64
     requires low { pos 0 ≤ℤ (depth +ℤ pos 131072) }
     requires high { depth ≤ℤ pos 131072 }
     ensures { result ≡ depth +ℤ effect stmt.now.instr }

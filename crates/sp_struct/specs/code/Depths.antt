@@ -1,5 +1,5 @@
 -- The depths that a pass tells.
-use Rattle.std.specs.Prelude.{◌≡◌, ◌<◌, ◌≤◌, ℕ, ℤ, pos, Bool, true, false, List, slice_index, slice_index_or, length}
+use Rattle.std.specs.Prelude.{◌≡◌, ◌<◌, ◌≤◌, ℕ, ℤ, pos, ◌+ℤ◌, ◌≤ℤ◌, Bool, true, false, List, slice_index, slice_index_or, length}
 use Rattle.sp_graph.specs.Depths.{HasDepth, depth_along}
 use Rattle.sp_graph.specs.Least.{WalkTo}
 use Rattle.sp_graph.specs.declared.graph.Node.{Node}
@@ -18,6 +18,8 @@ pub record TellsDepths (graph : List Node) (code : List Stmt) (seen : List Bool)
   pub marks : length seen ≡ length code
   pub some : (at : ℕ) → is_seen seen at ≡ true → HasDepth graph code at (depth_at depths at)
   pub none : (at : ℕ) → is_seen seen at ≡ false → (places : List ℕ) → WalkTo graph places at → ⊥
+  pub small :
+      (at : ℕ) → is_seen seen at ≡ true → (pos 0 ≤ℤ (depth_at depths at +ℤ pos 131072)) × (depth_at depths at ≤ℤ pos 131072)
 
 -- the first places of the order of least walks have their depths
 pub record TellsFirst (graph : List Node) (code : List Stmt) (chain : ℕ → List ℕ) (order : List ℕ) (depths : List ℤ) (next : ℕ) : Type 0 where

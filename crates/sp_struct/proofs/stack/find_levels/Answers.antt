@@ -84,4 +84,4 @@ pub returns : goal.returns
 returns c =
     let order = c.in_ok-seen.field-0.order.items in
     let past : length order ≤ c.places.next = omega (arith, c.places-test.false, c.len.ensures) in
-    all_told _ _ _ _ _ c.in_ok-seen.ensures.grown _ _ _ c.places.invariant past c.requires.size c.in_ok-seen.ensures.closed c.in_ok-seen.ensures.grown
+    all_told _ _ _ _ _ c.in_ok-seen.ensures.grown _ _ _ c.places.invariant past c.requires.size c.requires.few c.in_ok-seen.ensures.closed c.in_ok-seen.ensures.grown
