@@ -1,6 +1,10 @@
 pub mod AnswerLemmas
+pub mod CellLemmas
 pub mod ExampleLemmas
+pub mod FaultLemmas
+pub mod ListedLemmas
 pub mod OrderLemmas
+pub mod PortLemmas
 pub mod RouteLemmas
 pub mod SetLemmas
 pub mod SpreadLemmas

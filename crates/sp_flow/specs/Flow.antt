@@ -68,21 +68,9 @@ IsMissing p r routine k x = (has x routine.reads.locs ≡ false) × IsLeftUnset 
 
 -- ---- The kinds
 
--- a location that is used and missing
-abbrev pub UsesLoc : Program → ℕ → Loc → Type 0
-UsesLoc p line x = OnLine p line (λ r routine k s. IsTrue (has x (reads s.instr)) × IsMissing p r routine k x)
-
--- a cell of LDA or LHLD in no area of `reads` or `changes`
-abbrev pub UsesCell : Program → ℕ → ℕ → Type 0
-UsesCell p line cell = OnLine p line (λ r routine k s. Contains (cells_read s.instr) cell × (MayRead p routine cell → ⊥))
-
 -- a cell that an instruction or its callee changes
 abbrev pub Changes : Program → Stmt → ℕ → Type 0
 Changes p s cell = Contains (cells_written s.instr) cell ⊎ ((callee : Routine) × IsCallee p s callee × IsListed p callee.changes cell)
-
--- a cell of STA or SHLD, or of a callee's `changes` areas, in no area of `changes`
-abbrev pub WritesCell : Program → ℕ → ℕ → Type 0
-WritesCell p line cell = OnLine p line (λ r routine k s. Changes p s cell × (IsListed p routine.changes cell → ⊥))
 
 -- a port from which an instruction or its callee takes
 abbrev pub TakesFrom : Program → Stmt → ℕ → Type 0
@@ -92,29 +80,27 @@ TakesFrom p s port = Contains (ports_in s.instr) port ⊎ ((callee : Routine) ×
 abbrev pub PutsTo : Program → Stmt → ℕ → Type 0
 PutsTo p s port = Contains (ports_out s.instr) port ⊎ ((callee : Routine) × IsCallee p s callee × Contains callee.outs port)
 
+-- an instruction breaks a rule, at this location, cell or port
+abbrev pub Breaks : Program → ℕ → Routine → ℕ → Stmt → FlowKind → Type 0
+-- a location that is used and missing
+Breaks p r routine k s (kind.Uses (spot.Loc x)) = IsTrue (has x (reads s.instr)) × IsMissing p r routine k x
+-- a cell of LDA or LHLD in no area of `reads` or `changes`
+Breaks p r routine k s (kind.Uses (spot.Cell cell)) = Contains (cells_read s.instr) cell × (MayRead p routine cell → ⊥)
+-- a cell of STA or SHLD, or of a callee's `changes` areas, in no area of `changes`
+Breaks p r routine k s (kind.Writes cell) = Changes p s cell × (IsListed p routine.changes cell → ⊥)
 -- a port of input that isn't in `ins`, or of output that isn't in `outs`
-abbrev pub UsesPort : Program → ℕ → ℕ → Type 0
-UsesPort p line port = OnLine p line (λ r routine k s.
-    (TakesFrom p s port × (Contains routine.ins port → ⊥)) ⊎ (PutsTo p s port × (Contains routine.outs port → ⊥)))
-
+Breaks p r routine k s (kind.Port port) =
+    (TakesFrom p s port × (Contains routine.ins port → ⊥)) ⊎ (PutsTo p s port × (Contains routine.outs port → ⊥))
 -- a location in a callee's `reads` that is missing
-abbrev pub CallsReadsLoc : Program → ℕ → Loc → Type 0
-CallsReadsLoc p line x = OnLine p line (λ r routine k s.
-    (callee : Routine) × IsCallee p s callee × IsTrue (has x callee.reads.locs) × IsMissing p r routine k x)
-
+Breaks p r routine k s (kind.CallsReads (spot.Loc x)) =
+    (callee : Routine) × IsCallee p s callee × IsTrue (has x callee.reads.locs) × IsMissing p r routine k x
 -- a cell of a callee's `reads` areas in no area of `reads` or `changes`
-abbrev pub CallsReadsCell : Program → ℕ → ℕ → Type 0
-CallsReadsCell p line cell = OnLine p line (λ r routine k s.
-    (callee : Routine) × IsCallee p s callee × IsListed p callee.reads cell × (MayRead p routine cell → ⊥))
+Breaks p r routine k s (kind.CallsReads (spot.Cell cell)) =
+    (callee : Routine) × IsCallee p s callee × IsListed p callee.reads cell × (MayRead p routine cell → ⊥)
 
--- a rule is broken on a line, at this location, cell or port
+-- a rule is broken by an instruction on this line, at this location, cell or port
 abbrev pub IsBroken : Program → ℕ → FlowKind → Type 0
-IsBroken p line (kind.Uses (spot.Loc x)) = UsesLoc p line x
-IsBroken p line (kind.Uses (spot.Cell cell)) = UsesCell p line cell
-IsBroken p line (kind.Writes cell) = WritesCell p line cell
-IsBroken p line (kind.Port port) = UsesPort p line port
-IsBroken p line (kind.CallsReads (spot.Loc x)) = CallsReadsLoc p line x
-IsBroken p line (kind.CallsReads (spot.Cell cell)) = CallsReadsCell p line cell
+IsBroken p line rule = OnLine p line (λ r routine k s. Breaks p r routine k s rule)
 
 -- ---- The answer
 

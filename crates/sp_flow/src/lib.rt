@@ -2,7 +2,13 @@
 //! read, changed, taken and put without being listed (this project's own).
 #![tactic(auto)]
 
+mod cells;
+mod direct;
+mod fault;
 mod laws;
+mod listed;
+mod missing;
+mod ports;
 mod refusal;
 mod routes;
 mod routine;
@@ -10,7 +16,13 @@ mod sets;
 mod spread;
 mod ways;
 
+pub use cells::lowest_free;
+pub use direct::{cell_read, cell_written, lower, lower_free, port_in, port_out};
+pub use fault::{Fault, first, with_kind};
 pub use laws::{kinds_come_in_order, units_flow_by_example, units_have_one_answer};
+pub use listed::lowest_listed;
+pub use missing::first_lacking;
+pub use ports::lowest_port;
 pub use refusal::{FlowKind, FlowRefusal, Spot};
 pub use routes::ways_of;
 pub use routine::left_unset;
