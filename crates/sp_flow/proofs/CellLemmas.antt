@@ -1,5 +1,5 @@
 -- Cells of areas, up to the first that is of none.
-use Rattle.std.proofs.Common.{◌≡◌, ◌<◌, ◌≤◌, ℕ, ◌⊎◌, inl, inr, arith, List, Option, None, Some}
+use Rattle.std.proofs.Common.{◌<◌, ◌≤◌, ℕ, inl, inr, arith, List, Option, None, Some}
 use Rattle.std.proofs.lemmas.Bool.{cases_order}
 use Rattle.sp_flow.specs.code.Least.{HasCell, HasEither, IsCovered, IsCoveredBy}
 use Rattle.sp_prog.specs.declared.area.Area.{Area}

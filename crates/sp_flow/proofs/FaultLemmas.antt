@@ -1,8 +1,8 @@
 -- The order of broken rules.
-use Rattle.std.proofs.Common.{◌≡◌, ◌<◌, ◌≤◌, ℕ, ◌⊎◌, inl, inr, arith, refl, ap, sym, ◌∙◌, Option, None, Some}
+use Rattle.std.proofs.Common.{◌≡◌, ◌<◌, ◌≤◌, ℕ, ◌⊎◌, inl, inr, arith, refl, ap, sym, ◌∙◌, Option, Some}
 use Rattle.std.proofs.lemmas.Bool.{cases_order}
 use Rattle.sp_base.specs.declared.line.Line.{Line}
-use Rattle.sp_flow.specs.Flow.{CountsBefore, rank, detail}
+use Rattle.sp_flow.specs.Flow.{rank, detail}
 use Rattle.sp_flow.specs.code.Faults.{Before, IsFirst, IsFirstKind}
 use Rattle.sp_flow.specs.declared.fault.Fault.{Fault}
 use Rattle.sp_flow.specs.declared.refusal.FlowKind.{FlowKind}

@@ -1,8 +1,8 @@
 -- The least of numbers that are so for one of the things of a list.
-use Rattle.std.proofs.Common.{◌≡◌, ◌<◌, ◌≤◌, ◌+◌, ℕ, ◌⊎◌, inl, inr, arith, sym, ap, refl, subst, ◌∙◌, List, Option, None, Some, length, get_or, slice_get}
+use Rattle.std.proofs.Common.{◌≡◌, ◌<◌, ◌≤◌, ◌+◌, ℕ, ◌⊎◌, inl, inr, arith, sym, ap, refl, subst, ◌∙◌, List, Option, None, Some, length, slice_get}
 use Rattle.std.proofs.lemmas.Bool.{cases_order}
 use Rattle.std.proofs.lemmas.List.{get_or_default}
-use Rattle.std.specs.Prelude.{Contains, slice_index}
+use Rattle.std.specs.Prelude.{slice_index}
 use Rattle.sp_prog.specs.declared.area.Area.{Area}
 use Rattle.sp_prog.specs.Rules.{IsInArea}
 use Rattle.sp_flow.specs.code.Least.{CellAt, HasCell, HasEither, IsLeast, IsLowestFree, UpTo}

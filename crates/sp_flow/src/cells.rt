@@ -49,7 +49,13 @@ pub fn covered_by(areas: &[Area], one: &[usize], other: &[usize], cell: u32) -> 
 }
 
 /// The lowest cell from the first one up to an end that is in no area of two lists.
-pub fn lowest_free(areas: &[Area], one: &[usize], other: &[usize], first: u32, end: u32) -> Option<u32>
+pub fn lowest_free(
+    areas: &[Area],
+    one: &[usize],
+    other: &[usize],
+    first: u32,
+    end: u32,
+) -> Option<u32>
     ensures { IsLowestFree areas.now one.now other.now first end result }
 {
     let mut cell = first;

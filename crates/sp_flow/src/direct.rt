@@ -12,13 +12,7 @@ pub fn cell_read(instr: &Instr, at: usize) -> Option<u16>
     ensures { result ≡ slice_get (cells_read instr.now) at }
 {
     match *instr {
-        Instr::Lda(a) => {
-            if at == 0 {
-                Some(a)
-            } else {
-                None
-            }
-        }
+        Instr::Lda(a) => { if at == 0 { Some(a) } else { None } }
         Instr::Lhld(a) => {
             if at == 0 {
                 Some(a)
@@ -36,13 +30,7 @@ pub fn cell_written(instr: &Instr, at: usize) -> Option<u16>
     ensures { result ≡ slice_get (cells_written instr.now) at }
 {
     match *instr {
-        Instr::Sta(a) => {
-            if at == 0 {
-                Some(a)
-            } else {
-                None
-            }
-        }
+        Instr::Sta(a) => { if at == 0 { Some(a) } else { None } }
         Instr::Shld(a) => {
             if at == 0 {
                 Some(a)
@@ -101,7 +89,13 @@ pub fn lower(best: Option<u16>, cell: u16) -> Option<u16>
 }
 
 /// The lower of a cell, if it is in no area of two lists, and the lowest so far.
-pub fn lower_free(areas: &[Area], one: &[usize], other: &[usize], best: Option<u16>, cell: u16) -> Option<u16>
+pub fn lower_free(
+    areas: &[Area],
+    one: &[usize],
+    other: &[usize],
+    best: Option<u16>,
+    cell: u16,
+) -> Option<u16>
     ensures { IsLeast (λ n. (best ≡ Some n) ⊎ ((n ≡ cell) × (HasEither areas.now one.now other.now n → ⊥))) result }
 {
     if is_free(areas, one, other, cell) {

@@ -7,7 +7,13 @@ use crate::direct::lower;
 use sp_prog::Area;
 
 /// The lowest cell of an area that is in no area of two lists.
-fn lowest_of_area(areas: &[Area], one: &[usize], other: &[usize], addr: u16, len: u16) -> Option<u16>
+fn lowest_of_area(
+    areas: &[Area],
+    one: &[usize],
+    other: &[usize],
+    addr: u16,
+    len: u16,
+) -> Option<u16>
     requires { addr + len ≤ 65536 }
     ensures { IsLowestFree areas.now one.now other.now addr (addr + len) result }
 {

@@ -1,5 +1,5 @@
 -- The first broken rule of several.
-use Rattle.std.specs.Prelude.{◌≡◌, ◌≤◌, ℕ, Option, Some}
+use Rattle.std.specs.Prelude.{◌≡◌, ◌≤◌, Option, Some}
 use Rattle.sp_flow.specs.Flow.{CountsBefore, rank, detail}
 use Rattle.sp_flow.specs.declared.fault.Fault.{Fault}
 use Rattle.sp_flow.specs.declared.refusal.FlowKind.{FlowKind}

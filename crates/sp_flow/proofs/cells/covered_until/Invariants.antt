@@ -1,5 +1,5 @@
 use Rattle.std.proofs.Common.{◌≡◌, ◌<◌, ℕ, Some}
-use Rattle.std.specs.Prelude.{Contains, slice_get, slice_index}
+use Rattle.std.specs.Prelude.{slice_get, slice_index}
 use Rattle.sp_prog.specs.declared.area.Area.{Area}
 use Rattle.sp_prog.specs.Rules.{IsInArea}
 use Rattle.sp_flow.proofs.cells.covered_until.Given as goal

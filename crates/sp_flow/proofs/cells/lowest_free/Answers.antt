@@ -1,4 +1,4 @@
-use Rattle.std.proofs.Common.{◌<◌, ◌≤◌, arith}
+use Rattle.std.proofs.Common.{arith}
 use Rattle.sp_flow.proofs.CellLemmas.{more_covered}
 use Rattle.sp_flow.proofs.cells.lowest_free.Goals as goal
 

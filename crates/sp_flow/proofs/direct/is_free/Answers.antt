@@ -1,4 +1,4 @@
-use Rattle.std.proofs.Common.{rules, ◌≡◌, ◌≤◌, ◌<◌, arith}
+use Rattle.std.proofs.Common.{rules, ◌≡◌, arith}
 use Rattle.sp_flow.proofs.direct.is_free.Goals as goal
 
 pub returns-in-Some : goal.returns-in-Some

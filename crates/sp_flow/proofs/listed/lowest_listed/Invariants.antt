@@ -1,4 +1,4 @@
-use Rattle.std.proofs.Common.{◌≡◌, ◌⊎◌, ℕ, Some}
+use Rattle.std.proofs.Common.{◌≡◌, ◌⊎◌, Some}
 use Rattle.sp_flow.specs.code.Least.{IsLeast, UpTo}
 use Rattle.sp_flow.proofs.ListedLemmas.{FreeAt}
 use Rattle.sp_flow.proofs.listed.lowest_listed.Given as goal
