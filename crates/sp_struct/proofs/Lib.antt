@@ -7,3 +7,4 @@ pub mod LevelLemmas
 pub mod LowestLemmas
 pub mod OrderLemmas
 pub mod RuleLemmas
+pub mod SlotLemmas

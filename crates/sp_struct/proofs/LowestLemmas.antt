@@ -28,7 +28,7 @@ chosen best line false e = (
 )
 
 -- the lower one is at most the new line and the best before, and one of them
-lower_is : (best : Option Line) (line : Line) → (c : Line) × (lower best line ≡ Some c) × (c.0 ≤ line.0)
+pub lower_is : (best : Option Line) (line : Line) → (c : Line) × (lower best line ≡ Some c) × (c.0 ≤ line.0)
     × ((old : Line) → best ≡ Some old → c.0 ≤ old.0) × ((c ≡ line) ⊎ (best ≡ Some c))
 lower_is None line = (line, refl, omega arith, (λ old e. absurd cc), inl refl)
 lower_is (Some best) line =

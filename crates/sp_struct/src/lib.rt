@@ -9,6 +9,7 @@ mod finding;
 mod headers;
 mod laws;
 mod rules;
+mod slots;
 mod stack;
 mod unit_levels;
 
@@ -19,5 +20,6 @@ pub use finding::lowest;
 pub use headers::lowest_header;
 pub use laws::depths_are_one;
 pub use rules::Rule;
+pub use slots::lowest_slot;
 pub use stack::{Levels, effect, find_levels};
 pub use unit_levels::all_levels;
