@@ -1,14 +1,13 @@
 -- Where the depth that an instruction leaves isn't that of what comes next.
 use Rattle.std.proofs.Common.{◌≡◌, ◌≢◌, ◌<◌, ◌≤◌, ◌+◌, ℕ, ◌⊎◌, inl, inr, arith, Bool, true, false, List, Option, None, Some, IfSome, IfNone, is_some, slice_get, length, refl, sym, ap, ◌∙◌}
-use Rattle.std.specs.Prelude.{ℤ, pos, ◌+ℤ◌, ◌↔◌}
+use Rattle.std.specs.Prelude.{ℤ, ◌+ℤ◌, ◌↔◌}
 use Rattle.sp_base.specs.declared.line.Line.{Line}
-use Rattle.sp_graph.specs.Control.{control_of}
 use Rattle.sp_graph.specs.Depths.{effect}
 use Rattle.sp_graph.specs.Least.{Successor, WalkTo}
 use Rattle.sp_graph.specs.Least.WalkTo.{onward}
 use Rattle.sp_graph.specs.Graph.{LeadsTo}
 use Rattle.sp_graph.specs.Routines.{graph_of, graph_of_code, graph_of_routine}
-use Rattle.sp_graph.specs.Structure.{IsAt, ReturnsDeep, DiffersAt, DiffersInDepth, returns}
+use Rattle.sp_graph.specs.Structure.{IsAt, DiffersInDepth}
 use Rattle.sp_graph.specs.declared.graph.Node.{Node}
 use Rattle.sp_prog.specs.declared.routine.Routine.{Routine}
 use Rattle.sp_prog.specs.declared.routine.Stmt.{Stmt}
@@ -16,7 +15,7 @@ use Rattle.sp_prog.specs.Program.{Program}
 use Rattle.sp_struct.specs.Kinds.{IsLowestDifference}
 use Rattle.sp_struct.specs.code.Depths.{depth_at, is_seen, TellsDepths}
 use Rattle.sp_struct.specs.code.Gaps.{NextGap, NoNextGap, HasGap, HasNoGap, Differs, DiffersHere, LowestGap, line_of}
-use Rattle.sp_struct.specs.code.Lowest.{lower, LowestSoFar, IsLowest}
+use Rattle.sp_struct.specs.code.Lowest.{lower, IsLowest}
 use Rattle.sp_struct.specs.declared.differences.Difference.{Difference}
 use Rattle.sp_graph.proofs.NodeLemmas.{length_graph, in_graph}
 use Rattle.sp_struct.proofs.LeastLemmas.{one_depth}

@@ -8,3 +8,4 @@ pub mod LowestLemmas
 pub mod OrderLemmas
 pub mod RuleLemmas
 pub mod SlotLemmas
+pub mod StructuredLemmas

@@ -1,5 +1,5 @@
 -- Assertions that name words below those of the stack.
-use Rattle.std.proofs.Common.{◌≡◌, ◌<◌, ◌≤◌, ◌+◌, ◌*◌, ℕ, ◌⊎◌, inl, inr, arith, Bool, true, false, List, ◌++◌, Option, None, Some, slice_get, length, refl, sym, ap, ◌∙◌}
+use Rattle.std.proofs.Common.{◌≡◌, ◌<◌, ◌≤◌, ◌+◌, ◌*◌, ℕ, ◌⊎◌, inl, inr, arith, Bool, true, false, List, ◌++◌, Option, Some, slice_get, length, refl, sym, ap, ◌∙◌}
 use Rattle.std.specs.Prelude.{ℤ, pos, ◌<ℤ◌, int_lt, ◌||◌, Contains}
 use Rattle.std.proofs.Common.{tests}
 use Rattle.std.proofs.lemmas.Bool.{cases_order}
@@ -10,7 +10,6 @@ use Rattle.std.proofs.lemmas.List.Folds.{list_any-append, Any-from_list_any, lis
 use Rattle.std.proofs.lemmas.Option.{slice_get_within, slice_get_read, get_or_from_slice_get}
 use Rattle.sp_base.specs.declared.line.Line.{Line}
 use Rattle.sp_logic.specs.View.{note_of}
-use Rattle.sp_graph.specs.Least.{WalkTo}
 use Rattle.sp_graph.specs.Routines.{graph_of}
 use Rattle.sp_graph.specs.Structure.{IsAt, HasNoSlot, note_words}
 use Rattle.sp_prog.specs.declared.routine.Noted.{Noted}

@@ -18,7 +18,7 @@ pub use cycles::uncut;
 pub use differences::{Difference, Gap, lowest_difference};
 pub use finding::lowest;
 pub use headers::lowest_header;
-pub use laws::depths_are_one;
+pub use laws::{depths_are_one, depths_follow, loops_are_cut};
 pub use rules::Rule;
 pub use slots::lowest_slot;
 pub use stack::{Levels, effect, find_levels};

@@ -1,5 +1,5 @@
 -- Where the depth that an instruction leaves isn't that of what comes next, as the levels tell it.
-use Rattle.std.specs.Prelude.{◌≡◌, ◌≢◌, ◌⊎◌, ◌≤◌, ℕ, ℤ, pos, ◌+ℤ◌, true, Bool, List, Option, None, Some, slice_get}
+use Rattle.std.specs.Prelude.{◌≡◌, ◌≢◌, ◌⊎◌, ◌≤◌, ℕ, ℤ, pos, ◌+ℤ◌, true, Bool, List, Option, None, Some}
 use Rattle.sp_base.specs.declared.line.Line.{Line}
 use Rattle.sp_graph.specs.Control.{control_of}
 use Rattle.sp_graph.specs.Depths.{effect}

@@ -2,14 +2,11 @@ use Rattle.std.proofs.Common.{◌≡◌, ◌<◌, ◌∙◌, refl, Some, sym, ap
 use Rattle.std.proofs.lemmas.Option.{slice_get_read, slice_get_within}
 use Rattle.sp_graph.specs.Routines.{graph_of}
 use Rattle.sp_graph.specs.Structure.{IsAt}
-use Rattle.sp_prog.specs.declared.routine.Routine.{Routine}
 use Rattle.sp_prog.specs.declared.routine.Stmt.{Stmt}
 use Rattle.sp_prog.specs.Program.{Program}
-use Rattle.sp_struct.specs.code.Depths.{TellsDepths}
-use Rattle.sp_struct.specs.code.Gaps.{DiffersHere, LowestGap, line_of}
-use Rattle.sp_struct.specs.declared.stack.Levels.{Levels}
+use Rattle.sp_struct.specs.code.Gaps.{DiffersHere, line_of}
 use Rattle.sp_struct.proofs.GapLemmas.{next_inside, gap_more, gap_none, differs, agrees}
-use Rattle.sp_struct.proofs.LowestLemmas.{routine_done, same_at}
+use Rattle.sp_struct.proofs.LowestLemmas.{routine_done}
 use Rattle.sp_struct.proofs.differences.differences_in.Goals as goal
 use Rattle.sp_struct.proofs.differences.differences_in.Goals.{in-Some, in_default}
 

@@ -1,4 +1,4 @@
-use Rattle.std.proofs.Common.{◌≡◌, ◌∙◌, refl, Some, sym, arith, length, slice_get}
+use Rattle.std.proofs.Common.{◌≡◌, ◌∙◌, refl, Some, sym, length, slice_get}
 use Rattle.std.proofs.lemmas.Option.{slice_get_read}
 use Rattle.sp_struct.proofs.SlotLemmas.{lowered_more, lowered_kept}
 use Rattle.sp_struct.proofs.slots.lowest_note.Goals as goal

@@ -3,8 +3,6 @@ use Rattle.std.specs.Prelude.{pos}
 use Rattle.std.proofs.lemmas.List.{get_or_read}
 use Rattle.std.proofs.lemmas.Option.{slice_get_read, slice_get_within}
 use Rattle.sp_graph.specs.Structure.{IsAt}
-use Rattle.sp_prog.specs.declared.routine.Noted.{Noted}
-use Rattle.sp_prog.specs.declared.routine.Routine.{Routine}
 use Rattle.sp_prog.specs.declared.routine.Stmt.{Stmt}
 use Rattle.sp_prog.specs.Program.{Program}
 use Rattle.sp_struct.specs.code.Slots.{LacksHere, Lowered}
