@@ -26,13 +26,15 @@ use Rattle.sp_note.specs.declared.word.Word.{Word}
 use Rattle.sp_note.specs.declared.word.Word.TheVariants as words
 use Rattle.sp_lex.proofs.PieceLemmas.{one_cutting}
 use Rattle.sp_note.specs.Conditions.{IsWritten}
-use Rattle.sp_note.proofs.ConditionLemmas.{one_meaning}
+use Rattle.sp_note.proofs.ConditionLemmas.{one_meaning, read_right}
 use Rattle.sp_note.specs.Grammar as grammar
 use Rattle.sp_note.specs.Grammar.{Tree, rank_of_tree, ends_open, IsCondition, mark, spelling}
 use Rattle.sp_note.specs.Meaning.{meaning_of}
 use Rattle.sp_note.specs.RawNotes as raw
+use Rattle.sp_note.specs.Sorts.{sort_of}
+use Rattle.sp_note.specs.declared.operand.Sort.TheVariants as sort
 use Rattle.sp_note.specs.Words.{word_of}
-use Rattle.sp_note_laws.specs.Printed.{quantity_as_read, note_as_read, PrintedNotesStandForThemselves}
+use Rattle.sp_note_laws.specs.Printed.{quantity_as_read, note_as_read, PrintedNotesAreRead, PrintedNotesStandForThemselves}
 use Rattle.sp_note_laws.proofs.ReadLemmas.{Reads, done, blank, symbol, symbol_two, symbol_three, Ends, word, number, numeral, name, name_is, slot, token_words}
 
 -- ---- the trees of printed notes
@@ -573,3 +575,35 @@ printed_stand note h =
           let tokens : others ≡ tokens_from 0 whole.cuts = h.tokens_are ∙ ap (tokens_from 0) same in
           (one_meaning (note_text note) (tokens_from 0 whole.cuts) other (note_tree note) (subst (λ ts. IsWritten (note_text note) ts other) tokens w) written).0 ∙ note_means note);
     }
+
+-- ---- the reader's answer
+
+quantity_sort : (x : Quantity) → sort_of (quantity_as_read x) ≡ Some sort.Number
+quantity_sort (Literal n) = refl
+quantity_sort (Location m x) = refl
+quantity_sort (Pair m p) = refl
+quantity_sort (Cell m x) = rw (quantity_sort x) refl
+quantity_sort (StackWord k) = refl
+quantity_sort (Total m x y) = rw (quantity_sort x, quantity_sort y) refl
+quantity_sort (Negative x) = rw (quantity_sort x) refl
+quantity_sort (Parity x) = rw (quantity_sort x) refl
+quantity_sort (Operate o x y) = rw (quantity_sort x, quantity_sort y) refl
+quantity_sort (Bound n) = refl
+
+note_sort : (p : Note) → sort_of (note_as_read p) ≡ Some sort.Truth
+note_sort (Constant truth) = refl
+note_sort (Compare c x y) = rw (quantity_sort x, quantity_sort y) refl
+note_sort (Not p) = rw (note_sort p) refl
+note_sort (Connect c p q) = rw (note_sort p, note_sort q) refl
+note_sort (Quantify q n x y p) = rw (quantity_sort x, quantity_sort y, note_sort p) refl
+
+pub printed_read : PrintedNotesAreRead
+printed_read note tokens tree h cut written shallow narrow =
+    read_right (note_text note) tokens (note_as_read note) (record {
+      tree = tree;
+      written = written;
+      shallow = shallow;
+      means = sym ((printed_stand note h).alone tokens tree cut written);
+      sorted = note_sort note;
+      narrow = narrow;
+    })

@@ -1,15 +1,17 @@
 -- Annotations that are printed and read again (this project's own).
-use Rattle.std.specs.Prelude.{◌≡◌, ℕ, true, List}
+use Rattle.std.specs.Prelude.{◌≡◌, ℕ, ◌≤◌, true, List, [], Ok, IsSome}
 use Rattle.sp_lex.specs.declared.refusal.TextKind.{TextKind}
 use Rattle.sp_lex.specs.declared.token.Token.{Token}
 use Rattle.sp_lex.specs.Pieces.{Cut, AreCut, tokens_from, SomeBreaks}
 use Rattle.sp_logic.specs.Text.{note_text}
 use Rattle.sp_logic.specs.WellFormed.{IsWellFormed}
 use Rattle.sp_model.specs.Note as model
-use Rattle.sp_note.specs.Conditions.{IsWritten}
-use Rattle.sp_note.specs.Grammar.{Tree}
+use Rattle.sp_note.specs.Bounds.{bound_of}
+use Rattle.sp_note.specs.Conditions.{IsWritten, limit}
+use Rattle.sp_note.specs.Grammar.{Tree, depth_of}
 use Rattle.sp_note.specs.Meaning.{meaning_of}
 use Rattle.sp_note.specs.RawNotes.{RawNote, Literal, Constant, Location, Pair, Cell, StackWord, Total, Named, Negative, Parity, Operate, Compare, Not, Connect, Quantify}
+use Rattle.sp_note.specs.code.Lines.{condition_of}
 
 -- the quantity as a reader has it: a bound name is a name
 abbrev pub quantity_as_read : model.Quantity → RawNote
@@ -51,3 +53,9 @@ pub record StandsFor (text : List ℕ) (note : RawNote) : Type 0 where
 -- the printed form of a note stands for that note
 abbrev pub PrintedNotesStandForThemselves : Type 0
 PrintedNotesStandForThemselves = (note : model.Note) → IsWellFormed note → StandsFor (note_text note) (note_as_read note)
+
+-- so the reader of conditions answers by that note, where the printed form keeps to its limits on nesting and on numbers
+abbrev pub PrintedNotesAreRead : Type 0
+PrintedNotesAreRead = (note : model.Note) (tokens : List Token) (tree : Tree) → IsWellFormed note → HasTokens (note_text note) tokens
+    → IsWritten (note_text note) tokens tree → depth_of tree ≤ limit → IsSome (bound_of [] (note_as_read note))
+    → condition_of (note_text note) tokens ≡ Ok (note_as_read note)

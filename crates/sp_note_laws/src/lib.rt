@@ -1,4 +1,4 @@
-//! Annotations that are printed and read again. There is no code here, only a law on definitions.
+//! Annotations that are printed and read again. There is no code here, only laws on definitions.
 #![tactic(auto)]
 
 mod laws;
