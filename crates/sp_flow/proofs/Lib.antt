@@ -2,8 +2,10 @@ pub mod AnswerLemmas
 pub mod CellLemmas
 pub mod ExampleLemmas
 pub mod FaultLemmas
+pub mod KindLemmas
 pub mod ListedLemmas
 pub mod OrderLemmas
+pub mod OwnLemmas
 pub mod PortLemmas
 pub mod RouteLemmas
 pub mod SetLemmas

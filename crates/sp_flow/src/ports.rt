@@ -30,7 +30,7 @@ fn lower(best: Option<u8>, port: u8) -> Option<u8>
 }
 
 /// The lower of a port, unless it is in a list, and the lowest so far.
-fn lower_unless(best: Option<u8>, own: &[u8], port: u8) -> Option<u8>
+pub fn lower_unless(best: Option<u8>, own: &[u8], port: u8) -> Option<u8>
     ensures { IsLeast (λ n. (best ≡ Some n) ⊎ ((n ≡ port) × (Contains own.now n → ⊥))) result }
 {
     if has_port(own, port) {
