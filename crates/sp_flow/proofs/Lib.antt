@@ -1,5 +1,6 @@
 pub mod AnswerLemmas
 pub mod CellLemmas
+pub mod CountLemmas
 pub mod ExampleLemmas
 pub mod FaultLemmas
 pub mod KindLemmas

@@ -3,8 +3,10 @@
 #![tactic(auto)]
 
 mod cells;
+mod counting;
 mod direct;
 mod fault;
+mod kinds;
 mod laws;
 mod listed;
 mod missing;
@@ -18,8 +20,10 @@ mod spread;
 mod ways;
 
 pub use cells::lowest_free;
+pub use counting::{Listed, count_own};
 pub use direct::{cell_read, cell_written, lower, lower_free, port_in, port_out};
 pub use fault::{Fault, first, with_kind};
+pub use kinds::{calls_cell, calls_loc, uses_cell, uses_loc, uses_port, writes_cell};
 pub use laws::{kinds_come_in_order, units_flow_by_example, units_have_one_answer};
 pub use listed::lowest_listed;
 pub use missing::first_lacking;

@@ -6,10 +6,11 @@ use Rattle.sp_flow.specs.declared.refusal.FlowKind.{FlowKind}
 use Rattle.sp_flow.specs.declared.refusal.FlowKind.TheVariants as kind
 use Rattle.sp_flow.specs.declared.refusal.Spot.{Spot}
 use Rattle.sp_flow.specs.declared.refusal.Spot.TheVariants as spot
+use Rattle.sp_base.specs.declared.locs.Locs.{Locs}
 use Rattle.sp_isa.specs.Locations.{reads}
+use Rattle.sp_isa.specs.declared.instr.Instr.{Instr}
 use Rattle.sp_prog.specs.declared.area.Area.{Area}
 use Rattle.sp_prog.specs.declared.routine.Routine.{Routine}
-use Rattle.sp_prog.specs.declared.routine.Stmt.{Stmt}
 
 -- a kind of what was found, where something was
 abbrev pub told : {A : Type 0} → (A → FlowKind) → Option A → Option FlowKind
@@ -20,21 +21,33 @@ told make (Some a) = Some (make a)
 abbrev pub Made : {A : Type 0} → (A → FlowKind) → (A → Type 0) → FlowKind → Type 0
 Made {A} make Q k = (a : A) × (k ≡ make a) × Q a
 
+-- what a routine lists
+pub record Own : Type 0 where
+  pub locs : Locs
+  pub reads : List ℕ
+  pub changes : List ℕ
+  pub ins : List ℕ
+  pub outs : List ℕ
+
+abbrev pub own_of : Routine → Own
+own_of r = record { locs = r.reads.locs; reads = r.reads.areas; changes = r.changes.areas; ins = r.ins; outs = r.outs }
+
+abbrev pub own_lists : Locs → List ℕ → List ℕ → List ℕ → List ℕ → Own
+own_lists locs reads changes ins outs = record { locs = locs; reads = reads; changes = changes; ins = ins; outs = outs }
+
 -- what an instruction itself breaks
-abbrev pub Direct : List Area → Routine → Stmt → ℕ → FlowKind → Type 0
-Direct areas r s unset (kind.Uses (spot.Loc x)) = Lacks (reads s.instr) r.reads.locs unset x
-Direct areas r s unset (kind.Uses (spot.Cell n)) = Contains (cells_read s.instr) n × (HasEither areas r.reads.areas r.changes.areas n → ⊥)
-Direct areas r s unset (kind.Writes n) = Contains (cells_written s.instr) n × (HasEither areas r.changes.areas r.changes.areas n → ⊥)
-Direct areas r s unset (kind.Port n) =
-    (Contains (ports_in s.instr) n × (Contains r.ins n → ⊥)) ⊎ (Contains (ports_out s.instr) n × (Contains r.outs n → ⊥))
-Direct areas r s unset (kind.CallsReads at) = ⊥
+abbrev pub Direct : List Area → Own → Instr → ℕ → FlowKind → Type 0
+Direct areas r i unset (kind.Uses (spot.Loc x)) = Lacks (reads i) r.locs unset x
+Direct areas r i unset (kind.Uses (spot.Cell n)) = Contains (cells_read i) n × (HasEither areas r.reads r.changes n → ⊥)
+Direct areas r i unset (kind.Writes n) = Contains (cells_written i) n × (HasEither areas r.changes r.changes n → ⊥)
+Direct areas r i unset (kind.Port n) =
+    (Contains (ports_in i) n × (Contains r.ins n → ⊥)) ⊎ (Contains (ports_out i) n × (Contains r.outs n → ⊥))
+Direct areas r i unset (kind.CallsReads at) = ⊥
 
 -- what the call of a routine breaks
-abbrev pub Called : List Area → Routine → Routine → ℕ → FlowKind → Type 0
+abbrev pub Called : List Area → Own → Own → ℕ → FlowKind → Type 0
 Called areas r callee unset (kind.Uses at) = ⊥
-Called areas r callee unset (kind.Writes n) = HasCell areas callee.changes.areas n × (HasEither areas r.changes.areas r.changes.areas n → ⊥)
-Called areas r callee unset (kind.Port n) =
-    (Contains callee.ins n × (Contains r.ins n → ⊥)) ⊎ (Contains callee.outs n × (Contains r.outs n → ⊥))
-Called areas r callee unset (kind.CallsReads (spot.Loc x)) = Lacks callee.reads.locs r.reads.locs unset x
-Called areas r callee unset (kind.CallsReads (spot.Cell n)) =
-    HasCell areas callee.reads.areas n × (HasEither areas r.reads.areas r.changes.areas n → ⊥)
+Called areas r callee unset (kind.Writes n) = HasCell areas callee.changes n × (HasEither areas r.changes r.changes n → ⊥)
+Called areas r callee unset (kind.Port n) = (Contains callee.ins n × (Contains r.ins n → ⊥)) ⊎ (Contains callee.outs n × (Contains r.outs n → ⊥))
+Called areas r callee unset (kind.CallsReads (spot.Loc x)) = Lacks callee.locs r.locs unset x
+Called areas r callee unset (kind.CallsReads (spot.Cell n)) = HasCell areas callee.reads n × (HasEither areas r.reads r.changes n → ⊥)
