@@ -13,6 +13,7 @@ use Rattle.sp_flow.specs.declared.refusal.FlowKind.{FlowKind}
 use Rattle.sp_flow.specs.declared.refusal.FlowKind.TheVariants as kind
 use Rattle.sp_flow.specs.declared.refusal.Spot.TheVariants as spot
 use Rattle.sp_flow.proofs.FaultLemmas.{first_of_line}
+use Rattle.sp_flow.proofs.PortLemmas.{least_same}
 use Rattle.sp_flow.proofs.KindLemmas.{line_same, loc_kind, number_kind, two_more}
 use Rattle.sp_isa.specs.Locations.{reads}
 use Rattle.sp_isa.specs.declared.instr.Instr.{Instr}
@@ -94,3 +95,45 @@ calls_cell_kind Q o is = number_kind (λ n. kind.CallsReads (spot.Cell n)) Q o (
 -- a kind that the code tells
 pub by_told : (R : FlowKind → Type 0) (o t : Option FlowKind) → o ≡ t → IsFirstKind R t → IsFirstKind R o
 by_told R o t e is = subst (λ (p : Option FlowKind). IsFirstKind R p) (sym e) is
+
+-- the least where nothing was so far
+pub from_none : (Q : ℕ → Type 0) (o : Option ℕ) → IsLeast (λ n. (None ≡ Some n) ⊎ Q n) o → IsLeast Q o
+from_none Q o is = least_same (λ n. (None ≡ Some n) ⊎ Q n) Q o (λ n q. elim q as (λ r. Q n) [ inl e ↦ absurd cc | inr h ↦ h ]) (λ n h. inr h) is
+
+module _ (areas : List Area) (r callee : Own) (unset : ℕ) where
+  abbrev pub Changed1 : FlowKind → Type 0
+  Changed1 = Made (λ n. kind.Writes n) (λ n. HasCell areas callee.changes n × (HasEither areas r.changes r.changes n → ⊥))
+
+  abbrev pub Taken2 : FlowKind → Type 0
+  Taken2 = Made (λ n. kind.Port n) (λ n. Contains callee.ins n × (Contains r.ins n → ⊥))
+
+  abbrev pub Put3 : FlowKind → Type 0
+  Put3 = Made (λ n. kind.Port n) (λ n. Contains callee.outs n × (Contains r.outs n → ⊥))
+
+  abbrev pub Reads4 : FlowKind → Type 0
+  Reads4 = Made (λ x. kind.CallsReads (spot.Loc x)) (Lacks callee.locs r.locs unset)
+
+  abbrev pub Reads5 : FlowKind → Type 0
+  Reads5 = Made (λ n. kind.CallsReads (spot.Cell n)) (λ n. HasCell areas callee.reads n × (HasEither areas r.reads r.changes n → ⊥))
+
+  called_to : (k : FlowKind) → (((Changed1 k ⊎ Taken2 k) ⊎ Put3 k) ⊎ Reads4 k) ⊎ Reads5 k → Called areas r callee unset k
+  called_to k (inl (inl (inl (inl (n, e, h))))) = subst (λ (j : FlowKind). Called areas r callee unset j) (sym e) h
+  called_to k (inl (inl (inl (inr (n, e, h))))) = subst (λ (j : FlowKind). Called areas r callee unset j) (sym e) (inl h)
+  called_to k (inl (inl (inr (n, e, h)))) = subst (λ (j : FlowKind). Called areas r callee unset j) (sym e) (inr h)
+  called_to k (inl (inr (x, e, h))) = subst (λ (j : FlowKind). Called areas r callee unset j) (sym e) h
+  called_to k (inr (n, e, h)) = subst (λ (j : FlowKind). Called areas r callee unset j) (sym e) h
+
+  called_from : (k : FlowKind) → Called areas r callee unset k → (((Changed1 k ⊎ Taken2 k) ⊎ Put3 k) ⊎ Reads4 k) ⊎ Reads5 k
+  called_from (kind.Uses at) h = absurd h
+  called_from (kind.Writes n) h = inl (inl (inl (inl (n, refl, h))))
+  called_from (kind.Port n) (inl h) = inl (inl (inl (inr (n, refl, h))))
+  called_from (kind.Port n) (inr h) = inl (inl (inr (n, refl, h)))
+  called_from (kind.CallsReads (spot.Loc x)) h = inl (inr (x, refl, h))
+  called_from (kind.CallsReads (spot.Cell n)) h = inr (n, refl, h)
+
+  pub called_all :
+      (line : Line) (best b5 : Option Fault) →
+      IsFirst (λ f. (best ≡ Some f) ⊎ ((f.line ≡ line) × ((((Changed1 f.kind ⊎ Taken2 f.kind) ⊎ Put3 f.kind) ⊎ Reads4 f.kind) ⊎ Reads5 f.kind))) b5 →
+      IsFirst (λ f. (best ≡ Some f) ⊎ ((f.line ≡ line) × Called areas r callee unset f.kind)) b5
+  called_all line best b5 is =
+      line_same (λ f. best ≡ Some f) line (λ k. (((Changed1 k ⊎ Taken2 k) ⊎ Put3 k) ⊎ Reads4 k) ⊎ Reads5 k) (Called areas r callee unset) b5 called_to called_from is

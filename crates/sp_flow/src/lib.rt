@@ -20,7 +20,7 @@ mod spread;
 mod ways;
 
 pub use cells::lowest_free;
-pub use counting::{Listed, count_own};
+pub use counting::{Listed, callee_of, count_call, count_own, listed_of};
 pub use direct::{cell_read, cell_written, lower, lower_free, port_in, port_out};
 pub use fault::{Fault, first, with_kind};
 pub use kinds::{calls_cell, calls_loc, uses_cell, uses_loc, uses_port, writes_cell};

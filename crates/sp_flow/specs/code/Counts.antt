@@ -7,6 +7,9 @@ use Rattle.sp_flow.specs.declared.refusal.FlowKind.TheVariants as kind
 use Rattle.sp_flow.specs.declared.refusal.Spot.{Spot}
 use Rattle.sp_flow.specs.declared.refusal.Spot.TheVariants as spot
 use Rattle.sp_base.specs.declared.locs.Locs.{Locs}
+use Rattle.sp_graph.specs.Successors.{routine_at}
+use Rattle.sp_graph.specs.declared.control.Control.{Control}
+use Rattle.sp_graph.specs.declared.control.Control.TheVariants.{Call, CallIf}
 use Rattle.sp_isa.specs.Locations.{reads}
 use Rattle.sp_isa.specs.declared.instr.Instr.{Instr}
 use Rattle.sp_prog.specs.declared.area.Area.{Area}
@@ -51,3 +54,14 @@ Called areas r callee unset (kind.Writes n) = HasCell areas callee.changes n × 
 Called areas r callee unset (kind.Port n) = (Contains callee.ins n × (Contains r.ins n → ⊥)) ⊎ (Contains callee.outs n × (Contains r.outs n → ⊥))
 Called areas r callee unset (kind.CallsReads (spot.Loc x)) = Lacks callee.locs r.locs unset x
 Called areas r callee unset (kind.CallsReads (spot.Cell n)) = HasCell areas callee.reads n × (HasEither areas r.reads r.changes n → ⊥)
+
+-- what the call of a routine that may be breaks
+abbrev pub CalledAt : List Area → Own → Option Routine → ℕ → FlowKind → Type 0
+CalledAt areas r None unset k = ⊥
+CalledAt areas r (Some callee) unset k = Called areas r (own_of callee) unset k
+
+-- the place of the routine that an instruction calls
+abbrev pub callee_by : List Routine → Control → Option ℕ
+callee_by routines (Call address) = routine_at routines address
+callee_by routines (CallIf address) = routine_at routines address
+callee_by routines _ = None
