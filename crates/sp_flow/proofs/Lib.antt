@@ -1,4 +1,5 @@
 pub mod AnswerLemmas
+pub mod BrokenLemmas
 pub mod CellLemmas
 pub mod CountLemmas
 pub mod ExampleLemmas
@@ -11,3 +12,4 @@ pub mod PortLemmas
 pub mod RouteLemmas
 pub mod SetLemmas
 pub mod SpreadLemmas
+pub mod StatementLemmas

@@ -17,6 +17,7 @@ mod routes;
 mod routine;
 mod sets;
 mod spread;
+mod statements;
 mod ways;
 
 pub use cells::lowest_free;
@@ -33,4 +34,5 @@ pub use refusal::{FlowKind, FlowRefusal, Spot};
 pub use routes::ways_of;
 pub use routine::left_unset;
 pub use spread::unset;
+pub use statements::{count_code, count_stmt};
 pub use ways::{Way, Ways};

@@ -1,12 +1,17 @@
 -- What an instruction and its callee break, by the kinds of rules.
-use Rattle.std.specs.Prelude.{◌≡◌, ◌⊎◌, ℕ, List, Option, None, Some, Contains}
-use Rattle.sp_flow.specs.Flow.{cells_read, cells_written, ports_in, ports_out}
+use Rattle.std.specs.Prelude.{◌≡◌, ◌<◌, ◌⊎◌, ℕ, List, Option, None, Some, Contains, slice_get, slice_index}
+use Rattle.sp_flow.specs.Flow.{Breaks, cells_read, cells_written, ports_in, ports_out}
 use Rattle.sp_flow.specs.code.Least.{HasCell, HasEither, Lacks}
 use Rattle.sp_flow.specs.declared.refusal.FlowKind.{FlowKind}
 use Rattle.sp_flow.specs.declared.refusal.FlowKind.TheVariants as kind
 use Rattle.sp_flow.specs.declared.refusal.Spot.{Spot}
 use Rattle.sp_flow.specs.declared.refusal.Spot.TheVariants as spot
 use Rattle.sp_base.specs.declared.locs.Locs.{Locs}
+use Rattle.sp_flow.specs.declared.fault.Fault.{Fault}
+use Rattle.sp_graph.specs.Control.{control_of}
+use Rattle.sp_graph.specs.Routines.{callee_at}
+use Rattle.sp_graph.specs.Structure.{IsAt}
+use Rattle.sp_prog.specs.Program.{Program}
 use Rattle.sp_graph.specs.Successors.{routine_at}
 use Rattle.sp_graph.specs.declared.control.Control.{Control}
 use Rattle.sp_graph.specs.declared.control.Control.TheVariants.{Call, CallIf}
@@ -14,6 +19,7 @@ use Rattle.sp_isa.specs.Locations.{reads}
 use Rattle.sp_isa.specs.declared.instr.Instr.{Instr}
 use Rattle.sp_prog.specs.declared.area.Area.{Area}
 use Rattle.sp_prog.specs.declared.routine.Routine.{Routine}
+use Rattle.sp_prog.specs.declared.routine.Stmt.{Stmt}
 
 -- a kind of what was found, where something was
 abbrev pub told : {A : Type 0} → (A → FlowKind) → Option A → Option FlowKind
@@ -65,3 +71,23 @@ abbrev pub callee_by : List Routine → Control → Option ℕ
 callee_by routines (Call address) = routine_at routines address
 callee_by routines (CallIf address) = routine_at routines address
 callee_by routines _ = None
+
+-- what an instruction and its call break
+abbrev pub Faulty : List Area → List Routine → Own → Stmt → ℕ → FlowKind → Type 0
+Faulty areas routines r s unset k =
+    Direct areas r s.instr unset k ⊎ CalledAt areas r (callee_at routines (callee_by routines (control_of s.instr))) unset k
+
+-- what one of the first instructions breaks
+abbrev pub FaultyUpTo : List Area → List Routine → Own → List Stmt → List ℕ → ℕ → Fault → Type 0
+FaultyUpTo areas routines r code sets at f =
+    (j : ℕ) × (s : Stmt) × (j < at) × (slice_get code j ≡ Some s) × (f.line ≡ s.line) × Faulty areas routines r s (slice_index sets j) f.kind
+
+-- what an instruction of a routine breaks
+abbrev pub FaultyIn : List Area → List Routine → Own → List Stmt → List ℕ → Fault → Type 0
+FaultyIn areas routines r code sets f =
+    (j : ℕ) × (s : Stmt) × (slice_get code j ≡ Some s) × (f.line ≡ s.line) × Faulty areas routines r s (slice_index sets j) f.kind
+
+-- what an instruction of a routine of a unit breaks
+abbrev pub BrokenIn : Program → ℕ → Fault → Type 0
+BrokenIn p r f =
+    (k : ℕ) × (routine : Routine) × (s : Stmt) × IsAt p r k routine s × (s.line.0 ≡ f.line.0) × Breaks p r routine k s f.kind
