@@ -1,13 +1,16 @@
 -- What the code counts for a routine is what its instructions break.
-use Rattle.std.proofs.Common.{◌≡◌, ◌↔◌, ℕ, ◌⊎◌, inl, inr, refl, sym, ap, subst, ◌∙◌, List, Option, None, Some, slice_get}
+use Rattle.std.proofs.Common.{◌≡◌, ◌<◌, ◌≤◌, ◌+◌, arith, length, ◌↔◌, ℕ, ◌⊎◌, inl, inr, refl, sym, ap, subst, ◌∙◌, List, Option, None, Some, slice_get}
 use Rattle.std.specs.Prelude.{slice_index}
+use Rattle.std.proofs.lemmas.Bool.{cases_order}
+use Rattle.std.proofs.lemmas.Option.{slice_get_within}
+use Rattle.sp_flow.proofs.FaultLemmas.{first_more}
 use Rattle.sp_base.specs.declared.line.Line.{Line}
 use Rattle.sp_base.specs.declared.location.Loc.{Loc}
 use Rattle.sp_base.specs.Locs.{place}
-use Rattle.sp_flow.specs.Flow.{Breaks, IsCallee}
+use Rattle.sp_flow.specs.Flow.{Breaks, CountsBefore, IsBroken, IsCallee, IsFlowing, IsRefusedAt}
 use Rattle.sp_flow.specs.Routes.{ways_of}
 use Rattle.sp_flow.specs.Unset.{Has, IsLeftUnset}
-use Rattle.sp_flow.specs.code.Counts.{BrokenIn, Called, CalledAt, Direct, Faulty, FaultyIn, Own, callee_by, own_of}
+use Rattle.sp_flow.specs.code.Counts.{BrokenIn, BrokenUpTo, Called, CalledAt, Direct, Faulty, FaultyIn, Own, callee_by, own_of}
 use Rattle.sp_flow.specs.code.Faults.{IsFirst}
 use Rattle.sp_flow.specs.declared.fault.Fault.{Fault}
 use Rattle.sp_flow.specs.declared.refusal.FlowKind.{FlowKind}
@@ -135,3 +138,60 @@ module _ (p : Program) (r : ℕ) (routine : Routine) (sets : List ℕ)
         where
           same_line : (g : Fault) (t : Stmt) → g.line.0 ≡ t.line.0 → g.line ≡ t.line
           same_line g t e = ap (λ (n : ℕ). record { 0 = n }) e
+
+-- the same lists, said otherwise
+pub moved :
+    (S : Fault → Type 0) (best : Option Fault) (a b : List Area) (q r : List Routine) (o u : Own) (c d : List Stmt) (x y : List ℕ) →
+    a ≡ b → q ≡ r → o ≡ u → c ≡ d → x ≡ y → IsFirst (λ f. S f ⊎ FaultyIn a q o c x f) best → IsFirst (λ f. S f ⊎ FaultyIn b r u d y f) best
+moved S best a b q r o u c d x y e1 e2 e3 e4 e5 h =
+    subst (λ (z : List Area). IsFirst (λ f. S f ⊎ FaultyIn z r u d y f) best) e1
+    (subst (λ (z : List Routine). IsFirst (λ f. S f ⊎ FaultyIn a z u d y f) best) e2
+    (subst (λ (z : Own). IsFirst (λ f. S f ⊎ FaultyIn a q z d y f) best) e3
+    (subst (λ (z : List Stmt). IsFirst (λ f. S f ⊎ FaultyIn a q o z y f) best) e4
+    (subst (λ (z : List ℕ). IsFirst (λ f. S f ⊎ FaultyIn a q o c z f) best) e5 h))))
+
+module _ (p : Program) where
+  pub none_broken : IsFirst (λ f. BrokenUpTo p 0 f) None
+  none_broken = record { found = λ f e. absurd cc; least = λ f b. absurd (let l = b.1 in omega (arith, l)) }
+
+  pub routine_more :
+      (at : ℕ) (best more : Option Fault) → IsFirst (λ f. BrokenUpTo p at f) best → IsFirst (λ f. (best ≡ Some f) ⊎ BrokenIn p at f) more →
+      IsFirst (λ f. BrokenUpTo p (at + 1) f) more
+  routine_more at best more old new =
+      first_same (λ f. BrokenUpTo p at f ⊎ BrokenIn p at f) (λ f. BrokenUpTo p (at + 1) f) more to from
+      (first_more (λ f. BrokenUpTo p at f) (λ f. BrokenIn p at f) best more old new)
+    where
+      to : (f : Fault) → BrokenUpTo p at f ⊎ BrokenIn p at f → BrokenUpTo p (at + 1) f
+      to f (inl (r, l, b)) = (r, omega (arith, l), b)
+      to f (inr b) = (at, omega arith, b)
+
+      from : (f : Fault) → BrokenUpTo p (at + 1) f → BrokenUpTo p at f ⊎ BrokenIn p at f
+      from f (r, l, b) = elim (cases_order r at) as (λ o. BrokenUpTo p at f ⊎ BrokenIn p at f) [
+        | inl e ↦ inr (subst (λ (n : ℕ). BrokenIn p n f) e b)
+        | inr o ↦ elim o as (λ q. BrokenUpTo p at f ⊎ BrokenIn p at f) [ inl low ↦ inl (r, low, b) | inr high ↦ absurd (omega (arith, l, high)) ]
+      ]
+
+  pub routines_all :
+      (at : ℕ) (best : Option Fault) → length p.routines ≤ at → IsFirst (λ f. BrokenUpTo p at f) best → IsFirst (λ f. IsBroken p f.line.0 f.kind) best
+  routines_all at best past is =
+      first_same (λ f. BrokenUpTo p at f) (λ f. IsBroken p f.line.0 f.kind) best to from is
+    where
+      to : (f : Fault) → BrokenUpTo p at f → IsBroken p f.line.0 f.kind
+      to f (r, l, (k, routine, s, here, e, b)) = (r, k, routine, s, here, e, b)
+
+      from : (f : Fault) → IsBroken p f.line.0 f.kind → BrokenUpTo p at f
+      from f (r, k, routine, s, here, e, b) =
+          let low = slice_get_within p.routines r routine here.among in
+          (r, omega (arith, low, past), (k, routine, s, here, e, b))
+
+  pub refused : (fault : Fault) → IsFirst (λ f. IsBroken p f.line.0 f.kind) (Some fault) → IsRefusedAt p fault.line.0 fault.kind
+  refused fault is = record {
+    broken = is.found fault refl;
+    first = λ there other b before.
+        let m = is.least (record { line = record { 0 = there }; kind = other }) b in
+        let same : fault ≡ m.0 = let e = m.1 in cc e in
+        m.2 (subst (λ (g : Fault). CountsBefore there other g.line.0 g.kind) same before);
+  }
+
+  pub flowing : IsFirst (λ f. IsBroken p f.line.0 f.kind) None → IsFlowing p
+  flowing is line k b = let m = is.least (record { line = record { 0 = line }; kind = k }) b in let e = m.1 in absurd (cc e)

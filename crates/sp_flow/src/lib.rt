@@ -3,6 +3,7 @@
 #![tactic(auto)]
 
 mod cells;
+mod checking;
 mod counting;
 mod direct;
 mod fault;
@@ -21,6 +22,7 @@ mod statements;
 mod ways;
 
 pub use cells::lowest_free;
+pub use checking::{Flowing, check};
 pub use counting::{Listed, callee_of, count_call, count_own, listed_of};
 pub use direct::{cell_read, cell_written, lower, lower_free, port_in, port_out};
 pub use fault::{Fault, first, with_kind};

@@ -91,3 +91,7 @@ FaultyIn areas routines r code sets f =
 abbrev pub BrokenIn : Program → ℕ → Fault → Type 0
 BrokenIn p r f =
     (k : ℕ) × (routine : Routine) × (s : Stmt) × IsAt p r k routine s × (s.line.0 ≡ f.line.0) × Breaks p r routine k s f.kind
+
+-- what one of the first routines breaks
+abbrev pub BrokenUpTo : Program → ℕ → Fault → Type 0
+BrokenUpTo p at f = (r : ℕ) × (r < at) × BrokenIn p r f
