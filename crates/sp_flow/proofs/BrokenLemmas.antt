@@ -1,5 +1,5 @@
 -- What the code counts for a routine is what its instructions break.
-use Rattle.std.proofs.Common.{◌≡◌, ◌<◌, ◌≤◌, ◌+◌, arith, length, ◌↔◌, ℕ, ◌⊎◌, inl, inr, refl, sym, ap, subst, ◌∙◌, List, Option, None, Some, slice_get}
+use Rattle.std.proofs.Common.{◌≡◌, ◌≤◌, ◌+◌, arith, length, ◌↔◌, ℕ, ◌⊎◌, inl, inr, refl, sym, ap, subst, ◌∙◌, List, Option, None, Some, slice_get}
 use Rattle.std.specs.Prelude.{slice_index}
 use Rattle.std.proofs.lemmas.Bool.{cases_order}
 use Rattle.std.proofs.lemmas.Option.{slice_get_within}
@@ -10,7 +10,7 @@ use Rattle.sp_base.specs.Locs.{place}
 use Rattle.sp_flow.specs.Flow.{Breaks, CountsBefore, IsBroken, IsCallee, IsFlowing, IsRefusedAt}
 use Rattle.sp_flow.specs.Routes.{ways_of}
 use Rattle.sp_flow.specs.Unset.{Has, IsLeftUnset}
-use Rattle.sp_flow.specs.code.Counts.{BrokenIn, BrokenUpTo, Called, CalledAt, Direct, Faulty, FaultyIn, Own, callee_by, own_of}
+use Rattle.sp_flow.specs.code.Counts.{BrokenIn, BrokenUpTo, Called, CalledAt, Faulty, FaultyIn, Own, callee_by, own_of}
 use Rattle.sp_flow.specs.code.Faults.{IsFirst}
 use Rattle.sp_flow.specs.declared.fault.Fault.{Fault}
 use Rattle.sp_flow.specs.declared.refusal.FlowKind.{FlowKind}
@@ -19,7 +19,7 @@ use Rattle.sp_flow.specs.declared.refusal.Spot.TheVariants as spot
 use Rattle.sp_flow.proofs.KindLemmas.{first_same}
 use Rattle.sp_graph.specs.Control.{control_of}
 use Rattle.sp_graph.specs.Routines.{callee_at}
-use Rattle.sp_graph.specs.Structure.{IsAt, IsCallOf, call_target}
+use Rattle.sp_graph.specs.Structure.{call_target}
 use Rattle.sp_graph.specs.Successors.{routine_at}
 use Rattle.sp_graph.specs.declared.control.Control.{Control}
 use Rattle.sp_graph.specs.declared.control.Control.TheVariants.{Next, Jump, JumpIf, Call, CallIf, Return, ReturnIf, Halt}

@@ -1,10 +1,9 @@
 -- What an instruction and its callee break, kind by kind.
-use Rattle.std.proofs.Common.{◌≡◌, ◌≤◌, ◌+◌, ℕ, ◌⊎◌, inl, inr, arith, refl, sym, subst, List, Option, None, Some}
+use Rattle.std.proofs.Common.{◌≡◌, ℕ, ◌⊎◌, inl, inr, arith, refl, sym, subst, List, Option, None, Some}
 use Rattle.std.specs.Prelude.{Contains}
 use Rattle.sp_base.specs.declared.line.Line.{Line}
 use Rattle.sp_base.specs.declared.location.Loc.{Loc}
-use Rattle.sp_base.specs.Locs.{place}
-use Rattle.sp_flow.specs.Flow.{cells_read, cells_written, ports_in, ports_out, rank, detail}
+use Rattle.sp_flow.specs.Flow.{cells_read, cells_written, ports_in, ports_out}
 use Rattle.sp_flow.specs.code.Counts.{Called, Direct, Made, Own, told}
 use Rattle.sp_flow.specs.code.Faults.{IsFirst, IsFirstKind}
 use Rattle.sp_flow.specs.code.Least.{HasCell, HasEither, IsFirstLoc, IsLeast, Lacks}

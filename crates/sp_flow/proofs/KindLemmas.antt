@@ -1,12 +1,11 @@
 -- The first kind of a line, from what was found.
-use Rattle.std.proofs.Common.{◌≡◌, ◌<◌, ◌≤◌, ◌+◌, ℕ, zero, suc, ◌⊎◌, inl, inr, arith, refl, sym, ap, subst, ◌∙◌, List, [], ◌∷◌, Option, None, Some, length, get_or, slice_get}
-use Rattle.std.specs.Prelude.{Contains}
+use Rattle.std.proofs.Common.{◌≡◌, ◌≤◌, ℕ, ◌⊎◌, inl, inr, refl, sym, ap, subst, ◌∙◌, Option, None, Some}
 use Rattle.sp_base.specs.declared.line.Line.{Line}
 use Rattle.sp_base.specs.declared.location.Loc.{Loc}
 use Rattle.sp_base.specs.Locs.{place}
-use Rattle.sp_flow.specs.Flow.{rank, detail, cells_read, cells_written, ports_in, ports_out}
+use Rattle.sp_flow.specs.Flow.{rank, detail}
 use Rattle.sp_flow.specs.code.Counts.{told, Made}
-use Rattle.sp_flow.specs.code.Faults.{Before, IsFirst, IsFirstKind}
+use Rattle.sp_flow.specs.code.Faults.{IsFirst, IsFirstKind}
 use Rattle.sp_flow.specs.code.Least.{IsFirstLoc, IsLeast}
 use Rattle.sp_flow.specs.declared.fault.Fault.{Fault}
 use Rattle.sp_flow.specs.declared.refusal.FlowKind.{FlowKind}

@@ -1,5 +1,5 @@
 -- The cells and the port that an instruction names.
-use Rattle.std.proofs.Common.{◌≡◌, ◌<◌, ◌≤◌, ◌+◌, ℕ, zero, suc, ◌⊎◌, inl, inr, arith, refl, sym, ap, ◌∙◌, List, [], ◌∷◌, Option, None, Some, length, get_or, slice_get}
+use Rattle.std.proofs.Common.{◌≡◌, ◌<◌, ◌≤◌, ℕ, zero, suc, ◌⊎◌, inl, inr, arith, sym, ap, ◌∙◌, List, [], ◌∷◌, Option, None, Some, length, get_or, slice_get}
 use Rattle.std.specs.Prelude.{Contains}
 use Rattle.std.proofs.lemmas.Option.{slice_get_within, get_or_from_slice_get}
 use Rattle.sp_flow.specs.Flow.{cells_read, cells_written, ports_in, ports_out}

@@ -1,11 +1,11 @@
 -- What an instruction and its call break, together.
-use Rattle.std.proofs.Common.{◌≡◌, ◌<◌, ◌≤◌, ◌+◌, ℕ, ◌⊎◌, inl, inr, arith, refl, sym, ap, subst, ◌∙◌, List, [], ◌∷◌, Option, None, Some, length, slice_get}
+use Rattle.std.proofs.Common.{◌≡◌, ◌<◌, ◌≤◌, ◌+◌, ℕ, ◌⊎◌, inl, inr, arith, sym, ap, subst, ◌∙◌, List, [], ◌∷◌, Option, Some, length, slice_get}
 use Rattle.std.specs.Prelude.{nat_eq, slice_index}
 use Rattle.std.proofs.lemmas.Bool.{cases_order}
 use Rattle.std.proofs.lemmas.Option.{slice_get_within}
 use Rattle.std.proofs.lemmas.List.Quantifiers.{position-Some}
 use Rattle.sp_base.specs.declared.line.Line.{Line}
-use Rattle.sp_flow.specs.code.Counts.{CalledAt, Faulty, FaultyIn, FaultyUpTo, Own, callee_by}
+use Rattle.sp_flow.specs.code.Counts.{Faulty, FaultyIn, FaultyUpTo, Own, callee_by}
 use Rattle.sp_flow.specs.code.Faults.{Before, IsFirst}
 use Rattle.sp_flow.specs.declared.fault.Fault.{Fault}
 use Rattle.sp_flow.specs.declared.refusal.FlowKind.{FlowKind}
@@ -87,8 +87,7 @@ module _ (areas : List Area) (routines : List Routine) (r : Own) (code : List St
       now f j t e g l h =
           let here : slice_get code at ≡ Some t = subst (λ (k : ℕ). slice_get code k ≡ Some t) e g in
           let same : t ≡ s = cc (here, get) in
-          let set : slice_index sets j ≡ unset = ap (slice_index sets) e ∙ sym is in
-          (
+          let set : slice_index sets j ≡ unset = ap (slice_index sets) e ∙ sym is in (
             l ∙ ap (λ (x : Stmt). x.line) same,
             subst (λ (x : Stmt). Faulty areas routines r x unset f.kind) same (subst (λ (u : ℕ). Faulty areas routines r t u f.kind) set h),
           )

@@ -4,7 +4,6 @@ use Rattle.sp_flow.specs.Flow.{Breaks, cells_read, cells_written, ports_in, port
 use Rattle.sp_flow.specs.code.Least.{HasCell, HasEither, Lacks}
 use Rattle.sp_flow.specs.declared.refusal.FlowKind.{FlowKind}
 use Rattle.sp_flow.specs.declared.refusal.FlowKind.TheVariants as kind
-use Rattle.sp_flow.specs.declared.refusal.Spot.{Spot}
 use Rattle.sp_flow.specs.declared.refusal.Spot.TheVariants as spot
 use Rattle.sp_base.specs.declared.locs.Locs.{Locs}
 use Rattle.sp_flow.specs.declared.fault.Fault.{Fault}

@@ -1,11 +1,8 @@
-use Rattle.std.proofs.Common.{◌≡◌, ◌⊎◌, ℕ, Some, subst, sym}
-use Rattle.std.specs.Prelude.{Contains}
+use Rattle.std.proofs.Common.{subst}
 use Rattle.sp_base.specs.declared.locs.Locs.{Locs}
-use Rattle.sp_flow.specs.Flow.{cells_read, cells_written, ports_in, ports_out}
 use Rattle.sp_flow.specs.code.Counts.{own_lists}
-use Rattle.sp_flow.specs.code.Least.{HasEither, IsFirstLoc, Lacks}
+use Rattle.sp_flow.specs.code.Least.{IsFirstLoc, Lacks}
 use Rattle.sp_flow.proofs.CountLemmas.{Loc1, Cell2, Cell3, Port4, Port5, by_told, direct_all, five_more, port_kind, uses_cell_kind, uses_loc_kind, writes_kind}
-use Rattle.sp_isa.specs.Locations.{reads}
 use Rattle.sp_flow.proofs.counting.count_own.Goals as goal
 
 pub returns : goal.returns

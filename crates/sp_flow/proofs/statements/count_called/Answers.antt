@@ -1,4 +1,4 @@
-use Rattle.std.proofs.Common.{◌≡◌, ◌<◌, ◌⊎◌, ◌∙◌, ℕ, None, Option, Some, ap, length, refl, slice_get, subst, sym}
+use Rattle.std.proofs.Common.{◌≡◌, ◌⊎◌, ◌∙◌, None, Option, Some, ap, length, refl, slice_get, subst, sym}
 use Rattle.std.proofs.lemmas.Option.{slice_get_read}
 use Rattle.sp_flow.specs.code.Counts.{CalledAt, callee_by, own_lists}
 use Rattle.sp_flow.specs.code.Faults.{IsFirst}
@@ -24,7 +24,7 @@ returns-in-Some c =
     ap (callee_at c.args.routines.now) calls ∙ there in
     subst
     (λ (q : Option Routine). IsFirst (λ f. (c.args.best ≡ Some f) ⊎ ((f.line ≡ c.args.stmt.now.line)
-        × CalledAt c.args.areas.now (own_lists o.locs o.reads.now o.changes.now o.ins.now o.outs.now) q c.args.unset f.kind)) c.count_callee.result)
+    × CalledAt c.args.areas.now (own_lists o.locs o.reads.now o.changes.now o.ins.now o.outs.now) q c.args.unset f.kind)) c.count_callee.result)
     (sym at) c.count_callee.ensures
 
 pub returns-in-None : goal.returns-in-None
@@ -35,5 +35,5 @@ returns-in-None c =
     ap (callee_at c.args.routines.now) calls in
     subst
     (λ (q : Option Routine). IsFirst (λ f. (c.args.best ≡ Some f) ⊎ ((f.line ≡ c.args.stmt.now.line)
-        × CalledAt c.args.areas.now (own_lists o.locs o.reads.now o.changes.now o.ins.now o.outs.now) q c.args.unset f.kind)) c.args.best)
+    × CalledAt c.args.areas.now (own_lists o.locs o.reads.now o.changes.now o.ins.now o.outs.now) q c.args.unset f.kind)) c.args.best)
     (sym at) (nothing_more c.args.best c.args.stmt.now.line)

@@ -8,5 +8,5 @@ returns c =
     let o = c.args.own.now in
     subst
     (λ (q : Own). IsFirst (λ f. (c.args.best ≡ Some f) ⊎ ((f.line ≡ c.args.line)
-        × Called c.args.areas.now (own_lists o.locs o.reads.now o.changes.now o.ins.now o.outs.now) q c.args.unset f.kind)) c.count_call-counted.result)
+    × Called c.args.areas.now (own_lists o.locs o.reads.now o.changes.now o.ins.now o.outs.now) q c.args.unset f.kind)) c.count_call-counted.result)
     c.listed_of-callee.ensures c.count_call-counted.ensures
