@@ -6,6 +6,7 @@ pub mod LeastLemmas
 pub mod LevelLemmas
 pub mod LowestLemmas
 pub mod OrderLemmas
+pub mod RefusalLemmas
 pub mod RuleLemmas
 pub mod SlotLemmas
 pub mod StructuredLemmas

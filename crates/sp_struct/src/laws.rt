@@ -1,4 +1,6 @@
+ghost use Rattle.sp_prog.specs.Program.{Program};
 ghost use Rattle.sp_struct.specs.Laws.{DepthsAreOne, DepthsFollow, LoopsAreCut};
+ghost use Rattle.sp_struct.specs.Refusals.{HasOneRefusal};
 
 /// An instruction has one depth.
 pub fn depths_are_one()
@@ -13,4 +15,9 @@ pub fn depths_follow()
 /// Where no rule is broken, each cycle has an assertion.
 pub fn loops_are_cut()
     ensures { LoopsAreCut }
+{}
+
+/// A unit keeps all rules, or has one kind and one line.
+pub fn units_have_one_refusal()
+    ensures { (p : Program) → HasOneRefusal p }
 {}
