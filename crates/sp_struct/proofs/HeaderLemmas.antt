@@ -1,5 +1,5 @@
 -- The lowest of header lines.
-use Rattle.std.proofs.Common.{◌≡◌, ◌<◌, ◌+◌, ℕ, arith, true, false, Option, Some, slice_get, length, refl, sym, ap, ◌∙◌}
+use Rattle.std.proofs.Common.{◌≡◌, ◌<◌, ◌+◌, ℕ, ◌⊎◌, ◌≤◌, inl, inr, arith, true, false, Option, None, Some, slice_get, length, refl, sym, ap, ◌∙◌}
 use Rattle.std.specs.Prelude.{nat_lt}
 use Rattle.std.proofs.lemmas.Bool.{ltb-true, lt-ltb}
 use Rattle.std.proofs.lemmas.List.Elements.{Contains-from_at, at_from_Contains}
@@ -11,7 +11,7 @@ use Rattle.sp_prog.specs.Program.{Program}
 use Rattle.sp_struct.specs.Kinds.{IsLowestLine}
 use Rattle.sp_struct.specs.code.Headers.{Header, passes_region}
 use Rattle.sp_struct.specs.code.Lowest.{lower, LowestSoFar, IsLowest}
-use Rattle.sp_struct.proofs.LowestLemmas.{one_more, none_more, routine_done}
+use Rattle.sp_struct.proofs.LowestLemmas.{lower_is, one_more, none_more, routine_done}
 use Rattle.sp_struct.proofs.RuleLemmas.{both, join}
 
 module _ (p : Program) (r : ℕ) (routine : Routine) (e : slice_get p.routines r ≡ Some routine) (best : Option Line) (so_far : LowestSoFar (Header p) r 0 best) where
@@ -57,4 +57,32 @@ headers_told p best low = record {
         q.2,
         join q.0.start (nat_lt (p.last + 1) (p.first + q.0.depth)) q.3 (lt-ltb (p.last + 1) (p.first + q.0.depth) q.4),
       );
+}
+
+-- the lowest line on which one of two rules is broken
+pub lower_of_both : (A B : ℕ → Type 0) (a : Option Line) (line : Line) → IsLowestLine A a → IsLowestLine B (Some line) →
+    IsLowestLine (λ l. A l ⊎ B l) (lower a line)
+lower_of_both A B a line low high =
+    let c = lower_is a line in
+    record {
+      found = λ x e.
+          let same : c.0 ≡ x = let m = c.1 in cc (m, e) in
+          elim c.4 as (λ o. A x.0 ⊎ B x.0) [
+            | inl is ↦ inr (high.found x (ap (λ l. Some l) (sym is ∙ same)))
+            | inr old ↦ inl (low.found x (old ∙ ap (λ l. Some l) same))
+          ];
+      least = λ l h. elim h as (λ o. (b : Line) × (lower a line ≡ Some b) × (b.0 ≤ l)) [
+        | inl q ↦ let f = low.least l q in let d = c.3 f.0 f.1 in let e = f.2 in (c.0, c.1, omega (arith, d, e))
+        | inr q ↦
+            let f = high.least l q in
+            let is : line ≡ f.0 = let m = f.1 in cc m in
+            let d : line.0 ≤ l = rw (← is) at f.2 in
+            let e = c.2 in (c.0, c.1, omega (arith, d, e))
+      ];
+    }
+
+pub lower_of_one : (A B : ℕ → Type 0) (a : Option Line) → IsLowestLine A a → IsLowestLine B None → IsLowestLine (λ l. A l ⊎ B l) a
+lower_of_one A B a low none = record {
+  found = λ x e. inl (low.found x e);
+  least = λ l h. elim h as (λ o. (b : Line) × (a ≡ Some b) × (b.0 ≤ l)) [ inl q ↦ low.least l q | inr q ↦ let f = none.least l q in absurd (let m = f.1 in cc m) ];
 }

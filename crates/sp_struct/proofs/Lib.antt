@@ -4,9 +4,11 @@ pub mod GapLemmas
 pub mod HeaderLemmas
 pub mod LeastLemmas
 pub mod LevelLemmas
+pub mod LoopLemmas
 pub mod LowestLemmas
 pub mod OrderLemmas
 pub mod RefusalLemmas
 pub mod RuleLemmas
 pub mod SlotLemmas
 pub mod StructuredLemmas
+pub mod TurnedLemmas

@@ -2,7 +2,7 @@
 use Rattle.std.proofs.Common.{◌≡◌, ◌<◌, ◌≤◌, ℕ, ◌⊎◌, inl, inr, arith}
 use Rattle.sp_graph.specs.Structure.{IsStructured}
 use Rattle.sp_prog.specs.Program.{Program}
-use Rattle.sp_struct.specs.Refusals.{BreaksRule, rank, IsRefusedAt, HasOneRefusal}
+use Rattle.sp_struct.specs.Refusals.{BreaksRule, rank, HasOneRefusal}
 use Rattle.sp_struct.specs.declared.refusal.StructKind.{StructKind}
 use Rattle.sp_struct.specs.declared.refusal.StructKind.TheVariants as kind
 

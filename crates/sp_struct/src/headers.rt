@@ -1,9 +1,12 @@
 ghost use Rattle.std.specs.Prelude.{◌≡◌};
-ghost use Rattle.sp_graph.specs.Structure.{PassesRegion};
+ghost use Rattle.sp_graph.specs.Structure.{PassesDepth, PassesRegion};
 ghost use Rattle.sp_struct.specs.Kinds.{IsLowestLine};
 ghost use Rattle.sp_struct.specs.code.Headers.{passes_region};
+ghost use Rattle.sp_struct.specs.code.Levels.{AreLevels};
 
-use crate::finding::lower;
+use crate::finding::{lower, lowest};
+use crate::rules::Rule;
+use crate::stack::Levels;
 use sp_base::Line;
 use sp_prog::{Routine, Unit};
 
@@ -27,4 +30,16 @@ pub fn lowest_header(unit: &Unit) -> Option<Line>
         }
     }
     best
+}
+
+/// The lowest line on which a routine's depth or the stack region is passed.
+pub fn lowest_over_depth(unit: &Unit, all: &[Levels]) -> Option<Line>
+    requires { AreLevels unit.now all.now }
+    ensures { IsLowestLine (PassesDepth unit.now) result }
+{
+    let inside = lowest(unit, all, Rule::OverDepth);
+    match lowest_header(unit) {
+        Some(line) => lower(inside, line),
+        None => inside,
+    }
 }
