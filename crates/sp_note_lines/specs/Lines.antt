@@ -1,5 +1,5 @@
 -- Which tokens are an annotation line, and what it says, one rule a kind of line (this project's own).
-use Rattle.std.specs.Prelude.{◌≡◌, ◌↔◌, ◌≤◌, ℕ, List, [], ◌∷◌, Some, None, Ok, codes, ⊤}
+use Rattle.std.specs.Prelude.{◌≡◌, ◌↔◌, ◌⊎◌, ◌≤◌, ℕ, List, [], ◌∷◌, Some, None, Ok, Err, codes, ⊤}
 use Rattle.sp_lex.specs.declared.token.Token.{Token}
 use Rattle.sp_lex.specs.Readers.{name_at, IsComma, AreItems}
 use Rattle.sp_expr.specs.declared.setting.Setting.TheVariants.{Annotation}
@@ -7,7 +7,8 @@ use Rattle.sp_expr.specs.Trees as expr
 use Rattle.sp_expr.specs.Words as expressions
 use Rattle.sp_note.specs.declared.part.Listed.{Listed}
 use Rattle.sp_note.specs.declared.part.Listed.TheVariants as listed
-use Rattle.sp_note.specs.Conditions.{IsConditionOf}
+use Rattle.sp_note.specs.declared.refusal.NoteKind.{NoteKind}
+use Rattle.sp_note.specs.Conditions.{IsConditionOf, BreaksCondition}
 use Rattle.sp_note.specs.Parts as parts
 use Rattle.sp_note.specs.Parts.{Part, Expression}
 use Rattle.sp_note.specs.Words.{own_name, own_name_at}
@@ -126,3 +127,13 @@ pub record IsPart (source : List ℕ) (tokens : List Token) (part : Part) : Type
 pub record LinesFollowTheTable : Type 0 where
   pub right : (source : List ℕ) (tokens : List Token) (part : Part) → (part_at source tokens ≡ Ok part) ↔ IsPart source tokens part
   pub one : (source : List ℕ) (tokens : List Token) (part other : Part) → IsPart source tokens part → IsPart source tokens other → part ≡ other
+
+-- the words before a condition
+abbrev pub BeginsCondition : List ℕ → Type 0
+BeginsCondition word = (word ≡ codes "PRE") ⊎ ((word ≡ codes "POST") ⊎ (word ≡ codes "ASSERT"))
+
+-- a line is refused exactly where it says nothing by the table; where a condition stands, for the rule that the condition breaks
+pub record LinesAreRefused : Type 0 where
+  pub refused : (source : List ℕ) (tokens : List Token) → ((kind : NoteKind) × (part_at source tokens ≡ Err kind)) ↔ ((part : Part) → ¬ IsPart source tokens part)
+  pub conditions : (source : List ℕ) (first : Token) (rest : List Token) (word : List ℕ) (kind : NoteKind) → name_at source first ≡ Some word → BeginsCondition word
+      → (part_at source (first ∷ rest) ≡ Err kind) ↔ BreaksCondition source rest kind

@@ -1,7 +1,12 @@
 //! Annotation lines are read as the table of lines says.
-ghost use Rattle.sp_note_lines.specs.Lines.{LinesFollowTheTable};
+ghost use Rattle.sp_note_lines.specs.Lines.{LinesAreRefused, LinesFollowTheTable};
 
-/// A line is read as the part that it is by the table of lines, and refused where it is none.
+/// A line is read as the part that it is by the table of lines.
 pub fn lines_follow_the_table()
     ensures { LinesFollowTheTable }
+{}
+
+/// A line is refused exactly where it is no part, and a condition for the rule that it breaks.
+pub fn lines_are_refused()
+    ensures { LinesAreRefused }
 {}
