@@ -1,5 +1,5 @@
-//! The structure of routines: where control goes, which instructions are reached and at which depth of stack, which
-//! loops are cut by assertions, and who calls whom (this project's own).
+//! The structure of routines: where control goes, which instructions are reached and at which depth of stack, and which
+//! loops are cut by assertions (this project's own).
 #![tactic(auto)]
 
 mod breadth;
