@@ -146,11 +146,11 @@ module _ (source : List ℕ) where
         | inr fails ↦ (let bad : Err Syntax ≡ Ok ws = sym (ap (λ b. cond b inner (Err Syntax)) fails) ∙ e in absurd cc)
       ]
 
-  expression_ok : (tokens : List Token) (ws : Expression) → expression_of source tokens ≡ Ok ws → IsExpression source tokens ws
+  pub expression_ok : (tokens : List Token) (ws : Expression) → expression_of source tokens ≡ Ok ws → IsExpression source tokens ws
   unfolding expression_of
   expression_ok tokens ws e = words_right tokens (expressions.words_of source tokens) ws refl e
 
-  expression_right : (tokens : List Token) (ws : Expression) → IsExpression source tokens ws → expression_of source tokens ≡ Ok ws
+  pub expression_right : (tokens : List Token) (ws : Expression) → IsExpression source tokens ws → expression_of source tokens ≡ Ok ws
   unfolding expression_of
   expression_right tokens ws h = parsed_ok ws (expressions.words_of source tokens) (h.words, (h.tree, h.spells, h.shallow))
 

@@ -1,5 +1,5 @@
 -- Which tokens are an annotation line, and what it says, one rule a kind of line (this project's own).
-use Rattle.std.specs.Prelude.{◌≡◌, ◌↔◌, ◌⊎◌, ◌≤◌, ℕ, List, [], ◌∷◌, Some, None, Ok, Err, codes, ⊤}
+use Rattle.std.specs.Prelude.{◌≡◌, ◌↔◌, ◌⊎◌, ◌<◌, ◌≤◌, ℕ, List, [], ◌∷◌, Some, None, Ok, Err, codes, ⊤}
 use Rattle.sp_lex.specs.declared.token.Token.{Token}
 use Rattle.sp_lex.specs.Readers.{name_at, IsComma, AreItems}
 use Rattle.sp_expr.specs.declared.setting.Setting.TheVariants.{Annotation}
@@ -8,11 +8,12 @@ use Rattle.sp_expr.specs.Words as expressions
 use Rattle.sp_note.specs.declared.part.Listed.{Listed}
 use Rattle.sp_note.specs.declared.part.Listed.TheVariants as listed
 use Rattle.sp_note.specs.declared.refusal.NoteKind.{NoteKind}
+use Rattle.sp_note.specs.declared.refusal.NoteKind.TheVariants.{Syntax, TooDeep, Sort, Wide}
 use Rattle.sp_note.specs.Conditions.{IsConditionOf, BreaksCondition}
 use Rattle.sp_note.specs.Parts as parts
 use Rattle.sp_note.specs.Parts.{Part, Expression}
 use Rattle.sp_note.specs.Words.{own_name, own_name_at}
-use Rattle.sp_note.specs.code.Lines.{locations_named, part_at}
+use Rattle.sp_note.specs.code.Lines.{expression_of, locations_named, part_at}
 
 -- an expression of these words, nested to 64 at most; it has no `$` and no word of annotations as a name
 pub record IsExpression (source : List ℕ) (tokens : List Token) (ws : Expression) : Type 0 where
@@ -137,3 +138,16 @@ pub record LinesAreRefused : Type 0 where
   pub refused : (source : List ℕ) (tokens : List Token) → ((kind : NoteKind) × (part_at source tokens ≡ Err kind)) ↔ ((part : Part) → ¬ IsPart source tokens part)
   pub conditions : (source : List ℕ) (first : Token) (rest : List Token) (word : List ℕ) (kind : NoteKind) → name_at source first ≡ Some word → BeginsCondition word
       → (part_at source (first ∷ rest) ≡ Err kind) ↔ BreaksCondition source rest kind
+
+-- how tokens are no expression: they aren't in the grammar, or nest too deep
+abbrev pub BreaksExpression : List ℕ → List Token → NoteKind → Type 0
+BreaksExpression source tokens Syntax = (ws : Expression) (t : expr.Tree) → expressions.words_of source tokens ≡ Some ws → ¬ expr.SpellsIn Annotation ws t
+BreaksExpression source tokens TooDeep =
+    (ws : Expression) × (t : expr.Tree) × (expressions.words_of source tokens ≡ Some ws) × expr.SpellsIn Annotation ws t × (64 < expr.depth_of t)
+BreaksExpression source tokens Sort = ⊥
+BreaksExpression source tokens Wide = ⊥
+
+-- the reader of expressions gives exactly these answers
+pub record ExpressionsFollowTheGrammar : Type 0 where
+  pub right : (source : List ℕ) (tokens : List Token) (ws : Expression) → (expression_of source tokens ≡ Ok ws) ↔ IsExpression source tokens ws
+  pub broken : (source : List ℕ) (tokens : List Token) (kind : NoteKind) → (expression_of source tokens ≡ Err kind) ↔ BreaksExpression source tokens kind

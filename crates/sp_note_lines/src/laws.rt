@@ -1,5 +1,5 @@
 //! Annotation lines are read as the table of lines says.
-ghost use Rattle.sp_note_lines.specs.Lines.{LinesAreRefused, LinesFollowTheTable};
+ghost use Rattle.sp_note_lines.specs.Lines.{ExpressionsFollowTheGrammar, LinesAreRefused, LinesFollowTheTable};
 
 /// A line is read as the part that it is by the table of lines.
 pub fn lines_follow_the_table()
@@ -9,4 +9,9 @@ pub fn lines_follow_the_table()
 /// A line is refused exactly where it is no part, and a condition for the rule that it breaks.
 pub fn lines_are_refused()
     ensures { LinesAreRefused }
+{}
+
+/// Tokens are read as the expression that they are, and else refused for the first rule that they break.
+pub fn expressions_follow_the_grammar()
+    ensures { ExpressionsFollowTheGrammar }
 {}

@@ -3,4 +3,4 @@
 
 mod laws;
 
-pub use laws::{lines_are_refused, lines_follow_the_table};
+pub use laws::{expressions_follow_the_grammar, lines_are_refused, lines_follow_the_table};
