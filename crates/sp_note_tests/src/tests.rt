@@ -26,7 +26,7 @@ fn shown(rt: &impl Abort, alloc: Global, source: &[u8]) -> Result<String, Fail> 
 }
 
 /// Lines at the edges of the grammar, of its limit on nesting, of sorts and of bounds.
-static LINES: [(&[u8], &str); 62] = [
+static LINES: [(&[u8], &str); 64] = [
     (b";# stack 2300H, 23FFH", "ok"),
     (b";# stack 2300H", "syntax 1"),
     (b";# stack 1, 2, 3", "syntax 1"),
@@ -38,6 +38,11 @@ static LINES: [(&[u8], &str); 62] = [
     (b";# routine FIVE", "ok"),
     (b";# routine MVI", "syntax 1"),
     (b";# start", "ok"),
+    (
+        b";# stack 2300H, 23FFH\n;# routine FIVE\n;# post B\n;# changes A\nFIVE: MVI A,5\n RET\n;# end",
+        "sort 3",
+    ),
+    (b";# byte TOTAL, 2010H", "syntax 1"),
     (b";# start 1", "syntax 1"),
     (b";# reads A, BC, CY, FLAGS, BUF", "ok"),
     (b";# reads", "syntax 1"),
