@@ -1,0 +1,11 @@
+mod BoundLemmas
+mod CoefficientLemmas
+mod DecideLemmas
+mod EqualityLemmas
+mod ExampleLemmas
+mod ExactLemmas
+mod FormLemmas
+mod LinearLemmas
+mod PolynomialLemmas
+mod ProductLemmas
+mod RingLemmas

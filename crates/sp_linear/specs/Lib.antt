@@ -1,0 +1,4 @@
+pub mod Equality
+pub mod Linear
+pub mod Polynomials
+pub mod code
