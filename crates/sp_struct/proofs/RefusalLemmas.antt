@@ -6,7 +6,7 @@ use Rattle.sp_struct.specs.Refusals.{BreaksRule, rank, HasOneRefusal}
 use Rattle.sp_struct.specs.declared.refusal.StructKind.{StructKind}
 use Rattle.sp_struct.specs.declared.refusal.StructKind.TheVariants as kind
 
-unbroken : (p : Program) → IsStructured p → (k : StructKind) (line : ℕ) → BreaksRule p k line → ⊥
+pub unbroken : (p : Program) → IsStructured p → (k : StructKind) (line : ℕ) → BreaksRule p k line → ⊥
 unbroken p s kind.JumpOut line h = s.jumps line h
 unbroken p s kind.FallsOff line h = s.falls line h
 unbroken p s kind.CallOut line h = s.calls line h
@@ -22,7 +22,7 @@ unbroken p s kind.UncutLoop line h = s.cut line h
 unbroken p s kind.ReturnInStart line h = s.start line h
 unbroken p s kind.CodeWritten line h = s.code line h
 
-structured : (p : Program) → ((k : StructKind) (line : ℕ) → BreaksRule p k line → ⊥) → IsStructured p
+pub structured : (p : Program) → ((k : StructKind) (line : ℕ) → BreaksRule p k line → ⊥) → IsStructured p
 structured p none = record {
   jumps = none kind.JumpOut;
   falls = none kind.FallsOff;

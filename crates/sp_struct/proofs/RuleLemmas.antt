@@ -81,7 +81,7 @@ jump_out_back code t a e n = rw (e, n) refl
 
 -- ---- Calls
 
-routine_within : (routines : List Routine) (a c : ℕ) → routine_at routines a ≡ Some c → c < length routines
+pub routine_within : (routines : List Routine) (a c : ℕ) → routine_at routines a ≡ Some c → c < length routines
 routine_within [] a c e = absurd cc
 routine_within (r ∷ routines) a c e = (position-Some (λ x. nat_eq (address_of x) a) (r ∷ routines) c r e).0
 

@@ -1,5 +1,5 @@
 ghost use Rattle.sp_prog.specs.Program.{Program};
-ghost use Rattle.sp_struct.specs.Laws.{DepthsAreOne, DepthsFollow, LoopsAreCut};
+ghost use Rattle.sp_struct.specs.Laws.{CallsHaveARank, DepthsAreOne, DepthsFollow, LoopsAreCut, RefusalsAreOne};
 ghost use Rattle.sp_struct.specs.Refusals.{HasOneRefusal};
 
 /// An instruction has one depth.
@@ -17,7 +17,17 @@ pub fn loops_are_cut()
     ensures { LoopsAreCut }
 {}
 
+/// Where no rule is broken, routines have numbers that fall along calls.
+pub fn calls_have_a_rank()
+    ensures { CallsHaveARank }
+{}
+
 /// A unit keeps all rules, or has one kind and one line.
 pub fn units_have_one_refusal()
     ensures { (p : Program) → HasOneRefusal p }
+{}
+
+/// A unit is refused on one line in one way, with one pair of depths.
+pub fn refusals_are_one()
+    ensures { RefusalsAreOne }
 {}
