@@ -3,6 +3,7 @@ pub mod BreadthLemmas
 pub mod CallLemmas
 pub mod CountingLemmas
 pub mod DepthLemmas
+pub mod ExampleLemmas
 pub mod GapLemmas
 pub mod HeaderLemmas
 pub mod KeptLemmas

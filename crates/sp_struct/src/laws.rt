@@ -1,4 +1,5 @@
 ghost use Rattle.sp_prog.specs.Program.{Program};
+ghost use Rattle.sp_struct.specs.Examples.{RulesByExample};
 ghost use Rattle.sp_struct.specs.Laws.{CallsHaveARank, DepthsAreOne, DepthsFollow, LoopsAreCut, RefusalsAreOne};
 ghost use Rattle.sp_struct.specs.Refusals.{HasOneRefusal};
 
@@ -30,4 +31,9 @@ pub fn units_have_one_refusal()
 /// A unit is refused on one line in one way, with one pair of depths.
 pub fn refusals_are_one()
     ensures { RefusalsAreOne }
+{}
+
+/// Small units break a rule each, and twins that differ in one thing keep it.
+pub fn rules_by_example()
+    ensures { RulesByExample }
 {}

@@ -30,7 +30,7 @@ pub use finding::lowest;
 pub use headers::{lowest_header, lowest_over_depth};
 pub use laws::{
     calls_have_a_rank, depths_are_one, depths_follow, loops_are_cut, refusals_are_one,
-    units_have_one_refusal,
+    rules_by_example, units_have_one_refusal,
 };
 pub use loops::lowest_loop;
 pub use recursion::lowest_recursion;
