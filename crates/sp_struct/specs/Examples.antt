@@ -1,12 +1,14 @@
--- Units of one instruction that break a rule on structure, and twins that differ in one thing and don't.
-use Rattle.std.specs.Prelude.{ℕ, Bool, false, true, List, [], ◌∷◌, codes}
+-- Units of one or two instructions that break a rule on structure, and twins that differ in one thing and keep it (this project's own).
+use Rattle.std.specs.Prelude.{ℕ, pos, Bool, false, true, List, [], ◌∷◌, codes}
 use Rattle.std.specs.FinMap as maps
 use Rattle.sp_base.specs.declared.pair.Pair.TheVariants as pair
 use Rattle.sp_base.specs.Locs.{none}
 use Rattle.sp_isa.specs.declared.instr.Instr.{Instr}
 use Rattle.sp_isa.specs.declared.instr.Instr.TheVariants.{Jmp, Call, Ret, Pchl, Xchg, Sphl, Lxi, Push, Pop, Sta, Cmc}
 use Rattle.sp_isa.specs.declared.instr.StackPair.TheVariants as stack
-use Rattle.sp_logic.specs.declared.note.Note.TheVariants.{Constant}
+use Rattle.sp_logic.specs.declared.note.Note.TheVariants.{Constant, Compare}
+use Rattle.sp_logic.specs.declared.note.Comparison.TheVariants as comparison
+use Rattle.sp_logic.specs.declared.note.Quantity.TheVariants.{StackWord, Literal}
 use Rattle.sp_prog.specs.declared.routine.Lists.{Lists}
 use Rattle.sp_prog.specs.declared.routine.Noted.{Noted}
 use Rattle.sp_prog.specs.declared.routine.Routine.{Routine}
@@ -22,6 +24,10 @@ lists = record { locs = none; areas = [] }
 -- an instruction on line 6, at address 0, with these assertions
 abbrev pub stmt : Instr → List Noted → Stmt
 stmt i asserts = record { line = record { 0 = 6 }; addr = 0; instr = i; asserts = asserts }
+
+-- `STK1 = 5` on line 5
+abbrev pub word : Noted
+word = record { line = record { 0 = 5 }; note = Compare comparison.Equal (StackWord 1) (Literal 5) }
 
 -- `true` on line 5
 abbrev pub noted : List Noted
@@ -53,6 +59,16 @@ unit start depth i asserts = program (maps.from_sorted cells) 0x2300 0x23FF [] (
 abbrev pub one : Instr → Program
 one i = unit false 0 i []
 
+-- a second instruction, on line 7 at address 1
+abbrev pub second : Instr → Stmt
+second i = record { line = record { 0 = 7 }; addr = 1; instr = i; asserts = [] }
+
+abbrev pub routine_of_two : Instr → Instr → Routine
+routine_of_two i j = record (routine false 2 i []) { code = stmt i [] ∷ second j ∷ [] }
+
+abbrev pub two : Instr → Instr → Program
+two i j = program (maps.from_sorted cells) 0x2300 0x23FF [] (routine_of_two i j ∷ [])
+
 -- the instruction breaks a rule
 abbrev pub IsOut : Program → StructKind → Type 0
 IsOut p kind = BreaksRule p kind 6
@@ -80,6 +96,12 @@ pub record RulesByExample : Type 0 where
   pub popped : IsOut (one (Pop stack.B)) kind.PopsReturn
   pub not_popped : IsKept (one (Push stack.B)) kind.PopsReturn
   pub pushed : IsOut (one (Push stack.B)) kind.OverDepth
+  pub not_pushed : IsKept (unit false 2 (Push stack.B) []) kind.OverDepth
+  pub unreached : BreaksRule (two Ret Cmc) kind.Unreached 7
+  pub reached : IsKept (two Cmc Ret) kind.Unreached
+  pub deep : BreaksRule (two (Push stack.B) Ret) (kind.Depth (pos 2) (pos 0)) 7
+  pub no_slot : BreaksRule (unit false 0 Ret (word ∷ [])) kind.NoSlot 5
+  pub no_word : IsKept (unit false 0 Ret noted) kind.NoSlot
   pub looped : IsOut (one (Jmp 0)) kind.UncutLoop
   pub cut : IsKept (unit false 0 (Jmp 0) noted) kind.UncutLoop
   pub returned : IsOut (unit true 0 Ret []) kind.ReturnInStart
