@@ -8,7 +8,7 @@ use Rattle.std.proofs.Common.{subst}
 use Rattle.sp_term.specs.Tree.{Tree, Literal, Add, Subtract, Multiply, Equal, Less, LessOrEqual, Not}
 use Rattle.sp_linear.specs.Linear.{form_of, form_of_not, negated, hypothesis_sides, sides_of_not, goal_sides, sizes, counts, IsSum, Nothing, One, IsSmall}
 use Rattle.sp_linear.specs.Polynomials.{Monomial, number_only, times_one, multiply, polynomial, is_same, coefficient, coefficient_in, size, count}
-use Rattle.sp_linear.specs.Equality.{same_tree}
+use Rattle.sp_simp.specs.Same.{tree_eq}
 use Rattle.sp_linear.specs.code.Sums.{weight}
 
 pub weight-append : {A : Type 0} (ms ns : List (Monomial A)) → weight (ms ++ ns) ≡ weight ms + weight ns
@@ -97,7 +97,7 @@ form_count (Equal x y) f h = for count _ f _ h (omega arith)
 form_count (Not p) f h = form_not_count p f h
 form_count t f h = cc
 
-negated_size : (t f : Tree) → negated t ≡ Some f → size f ≤ goal_sides t size
+pub negated_size : (t f : Tree) → negated t ≡ Some f → size f ≤ goal_sides t size
 negated_size (LessOrEqual x y) f h = for size _ f _ h (omega arith)
 negated_size (Less x y) f h = for size _ f _ h (omega arith)
 negated_size t f h = cc
@@ -138,4 +138,4 @@ both_sizes n0 by x y sum small adds = let s = small.size in
     omega (arith, s, sum_size by sum adds, times_size (max 1 (unsigned_abs n0)) (size y + size x) (size x + size y + 1) (omega arith))
 
 pub coefficient_le_size : (p : List Tree) (t : Tree) → unsigned_abs (coefficient_in p t) ≤ size t
-coefficient_le_size p t = omega (arith, coefficient_le_weight same_tree p (polynomial t), weight_le_size t)
+coefficient_le_size p t = omega (arith, coefficient_le_weight tree_eq p (polynomial t), weight_le_size t)

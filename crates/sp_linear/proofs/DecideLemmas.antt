@@ -1,5 +1,5 @@
 -- The test of the whole step answers exactly.
-use Rattle.std.proofs.Common.{ℕ, ◌+◌, ◌*◌, ◌^◌, ◌≤◌, ◌<◌, ◌≡◌, refl, sym, ◌∙◌, ap, ap₂, subst, max, unsigned_abs, ℤ, pos, negsuc, ◌-ℤ◌, ◌≤ℤ◌, Bool, true, false, cond, List, [], ◌∷◌, Option, Some, None, inl, inr, ◌⊎◌, arith}
+use Rattle.std.proofs.Common.{ℕ, ◌+◌, ◌*◌, ◌^◌, ◌≤◌, ◌<◌, ◌≡◌, refl, sym, ◌∙◌, ap, ap₂, subst, max, unsigned_abs, ℤ, pos, negsuc, ◌-ℤ◌, ◌≤ℤ◌, Bool, true, false, cond, List, [], ◌∷◌, Option, Some, None, inl, inr, ◌⊎◌, ◌↔◌, arith}
 use Rattle.std.specs.Prelude.{◌&&◌, ◌||◌, int_le, nat_le, nat_lt}
 use Rattle.std.specs.Ordering.{int_eq}
 use Rattle.std.specs.Bool.{Decides}
@@ -9,7 +9,7 @@ use Rattle.std.proofs.lemmas.Bool.{or_cases}
 use Rattle.std.proofs.lemmas.Bool.Decides.{nat_tests}
 use Rattle.sp_term.specs.Tree.{Tree, Literal, Add, Subtract, Multiply, Equal}
 use Rattle.sp_linear.specs.Polynomials.{Monomial, number_only, times_one, coefficient, polynomial, size, count}
-use Rattle.sp_linear.specs.Equality.{same_tree}
+use Rattle.sp_simp.specs.Same.{tree_eq}
 use Rattle.sp_linear.specs.Linear.{form_of, negated, is_equality, IsSum, Nothing, One, Contradicts, Alone, WithGoal, IsCombined, Concludes, ByContradiction, ByEquations, goal_sides, sizes, counts, IsSmall, Follows}
 use Rattle.sp_linear.specs.code.Tests.{zero_apart, is_negative, is_nothing, plus_form, may_stand, sum_of, are_equations, against_goal, contradicts, combined, concludes, is_small, follows}
 use Rattle.sp_linear.proofs.EqualityLemmas.{trees_told}
@@ -42,16 +42,16 @@ either_way (inr q) f g = g q
 level : (a b : ℤ) → a ≡ b → a -ℤ b ≡ pos 0
 level a b h = omega (arith, ints)
 
-below : (a b : ℕ) → nat_lt a b ≡ true → a < b
+pub below : (a b : ℕ) → nat_lt a b ≡ true → a < b
 below a b h = grind (arith, nat_tests)
 
-is_below : (a b : ℕ) → a < b → nat_lt a b ≡ true
+pub is_below : (a b : ℕ) → a < b → nat_lt a b ≡ true
 is_below a b h = grind (arith, nat_tests)
 
-up_to : (a b : ℕ) → nat_le a b ≡ true → a ≤ b
+pub up_to : (a b : ℕ) → nat_le a b ≡ true → a ≤ b
 up_to a b h = grind (arith, nat_tests)
 
-is_up_to : (a b : ℕ) → a ≤ b → nat_le a b ≡ true
+pub is_up_to : (a b : ℕ) → a ≤ b → nat_le a b ≡ true
 is_up_to a b h = grind (arith, nat_tests)
 
 at_least_one : (n : ℤ) → int_le (pos 1) n ≡ true → pos 1 ≤ℤ n
@@ -92,15 +92,15 @@ against_from n0 sum goal None is e = cc
 
 contradicts_from : (n0 : ℤ) (sum goal : Tree) → (contradicts n0 sum goal ≡ true) → Contradicts n0 sum goal
 contradicts_from n0 sum goal h =
-    either_way (or_cases (int_eq n0 (pos 0) && is_negative same_tree (polynomial sum)) (against_goal n0 sum (negated goal)) h)
-    (λ e. Alone goal (equal_true n0 (pos 0) (and_left (int_eq n0 (pos 0)) (is_negative same_tree (polynomial sum)) e)) ((negative_exact sum).0 (and_right (int_eq n0 (pos 0)) (is_negative same_tree (polynomial sum)) e)))
+    either_way (or_cases (int_eq n0 (pos 0) && is_negative tree_eq (polynomial sum)) (against_goal n0 sum (negated goal)) h)
+    (λ e. Alone goal (equal_true n0 (pos 0) (and_left (int_eq n0 (pos 0)) (is_negative tree_eq (polynomial sum)) e)) ((negative_exact sum).0 (and_right (int_eq n0 (pos 0)) (is_negative tree_eq (polynomial sum)) e)))
     (λ e. against_from n0 sum goal (negated goal) refl e)
 
 contradicts_to : (n0 : ℤ) (sum goal : Tree) → Contradicts n0 sum goal → contradicts n0 sum goal ≡ true
 contradicts_to n0 sum _ (Alone goal z k) =
-    or_left_true (int_eq n0 (pos 0) && is_negative same_tree (polynomial sum)) (against_goal n0 sum (negated goal)) (ap₂ (λ (a b : Bool). a && b) (true_equal n0 (pos 0) z) ((negative_exact sum).1 k))
+    or_left_true (int_eq n0 (pos 0) && is_negative tree_eq (polynomial sum)) (against_goal n0 sum (negated goal)) (ap₂ (λ (a b : Bool). a && b) (true_equal n0 (pos 0) z) ((negative_exact sum).1 k))
 contradicts_to n0 sum _ (WithGoal goal against is k) =
-    or_right_true (int_eq n0 (pos 0) && is_negative same_tree (polynomial sum)) (against_goal n0 sum (negated goal)) (ap (against_goal n0 sum) is ∙ (negative_exact (Add (Multiply (Literal n0) against) sum)).1 k)
+    or_right_true (int_eq n0 (pos 0) && is_negative tree_eq (polynomial sum)) (against_goal n0 sum (negated goal)) (ap (against_goal n0 sum) is ∙ (negative_exact (Add (Multiply (Literal n0) against) sum)).1 k)
 
 -- ---- the second way
 equal_from : (by : List (ℤ × Tree)) → are_equations by ≡ true → AllByRecursion (λ h. is_equality h.1 ≡ true) by
@@ -111,30 +111,30 @@ equal_to : (by : List (ℤ × Tree)) → AllByRecursion (λ h. is_equality h.1 �
 equal_to [] h = refl
 equal_to (n ∷ by) h = ap₂ (λ (a b : Bool). a && b) h.0 (equal_to by h.1)
 
-difference : (p : List Tree) (s t : Tree) → coefficient same_tree p (polynomial (Subtract s t)) ≡ coefficient same_tree p (polynomial s) -ℤ coefficient same_tree p (polynomial t)
-difference p s t = omega (arith, ints, coefficient-append same_tree p (polynomial s) (times_one (number_only (negsuc 0)) (polynomial t)), coefficient-minus same_tree p (polynomial t))
+difference : (p : List Tree) (s t : Tree) → coefficient tree_eq p (polynomial (Subtract s t)) ≡ coefficient tree_eq p (polynomial s) -ℤ coefficient tree_eq p (polynomial t)
+difference p s t = omega (arith, ints, coefficient-append tree_eq p (polynomial s) (times_one (number_only (negsuc 0)) (polynomial t)), coefficient-minus tree_eq p (polynomial t))
 
-none_at : (ms : List (Monomial Tree)) → is_nothing same_tree ms ≡ true → (p : List Tree) → coefficient same_tree p ms ≡ pos 0
-none_at ms h [] = equal_true (coefficient same_tree [] ms) (pos 0) (and_left (int_eq (coefficient same_tree [] ms) (pos 0)) (zero_apart same_tree ms ms) h)
-none_at ms h (a ∷ p) = one_of (coefficient same_tree (a ∷ p) ms) (zero_from same_tree trees_told ms (a ∷ p) (λ e. cc) ms (and_right (int_eq (coefficient same_tree [] ms) (pos 0)) (zero_apart same_tree ms ms) h))
+none_at : (ms : List (Monomial Tree)) → is_nothing tree_eq ms ≡ true → (p : List Tree) → coefficient tree_eq p ms ≡ pos 0
+none_at ms h [] = equal_true (coefficient tree_eq [] ms) (pos 0) (and_left (int_eq (coefficient tree_eq [] ms) (pos 0)) (zero_apart tree_eq ms ms) h)
+none_at ms h (a ∷ p) = one_of (coefficient tree_eq (a ∷ p) ms) (zero_from tree_eq trees_told ms (a ∷ p) (λ e. cc) ms (and_right (int_eq (coefficient tree_eq [] ms) (pos 0)) (zero_apart tree_eq ms ms) h))
 
-same_from_nothing : (s t : Tree) → is_nothing same_tree (polynomial (Subtract s t)) ≡ true → (p : List Tree) → coefficient same_tree p (polynomial s) ≡ coefficient same_tree p (polynomial t)
+same_from_nothing : (s t : Tree) → is_nothing tree_eq (polynomial (Subtract s t)) ≡ true → (p : List Tree) → coefficient tree_eq p (polynomial s) ≡ coefficient tree_eq p (polynomial t)
 same_from_nothing s t h p = omega (arith, ints, difference p s t, none_at (polynomial (Subtract s t)) h p)
 
-nothing_from_same : (s t : Tree) → ((p : List Tree) → coefficient same_tree p (polynomial s) ≡ coefficient same_tree p (polynomial t)) → is_nothing same_tree (polynomial (Subtract s t)) ≡ true
+nothing_from_same : (s t : Tree) → ((p : List Tree) → coefficient tree_eq p (polynomial s) ≡ coefficient tree_eq p (polynomial t)) → is_nothing tree_eq (polynomial (Subtract s t)) ≡ true
 nothing_from_same s t h =
-    let all : (p : List Tree) → coefficient same_tree p (polynomial (Subtract s t)) ≡ pos 0 = λ p. difference p s t ∙ level (coefficient same_tree p (polynomial s)) (coefficient same_tree p (polynomial t)) (h p) in
-    ap₂ (λ (a b : Bool). a && b) (true_equal (coefficient same_tree [] (polynomial (Subtract s t))) (pos 0) (all [])) (zero_to same_tree (polynomial (Subtract s t)) (λ p some. all p) (polynomial (Subtract s t)))
+    let all : (p : List Tree) → coefficient tree_eq p (polynomial (Subtract s t)) ≡ pos 0 = λ p. difference p s t ∙ level (coefficient tree_eq p (polynomial s)) (coefficient tree_eq p (polynomial t)) (h p) in
+    ap₂ (λ (a b : Bool). a && b) (true_equal (coefficient tree_eq [] (polynomial (Subtract s t))) (pos 0) (all [])) (zero_to tree_eq (polynomial (Subtract s t)) (λ p some. all p) (polynomial (Subtract s t)))
 
 combined_from : (n0 : ℤ) (by : List (ℤ × Tree)) (sum goal : Tree) → combined n0 by sum goal ≡ true → Concludes n0 by sum goal
 combined_from n0 by sum (Equal x y) h =
     let right = Multiply (Literal n0) (Subtract y x) in
-    let rest = and_right (int_le (pos 1) n0) (are_equations by && is_nothing same_tree (polynomial (Subtract sum right))) h in
-    let first = and_left (int_le (pos 1) n0) (are_equations by && is_nothing same_tree (polynomial (Subtract sum right))) h in
+    let rest = and_right (int_le (pos 1) n0) (are_equations by && is_nothing tree_eq (polynomial (Subtract sum right))) h in
+    let first = and_left (int_le (pos 1) n0) (are_equations by && is_nothing tree_eq (polynomial (Subtract sum right))) h in
     ByEquations x y (record {
       positive = at_least_one n0 first;
-      equations = equal_from by (and_left (are_equations by) (is_nothing same_tree (polynomial (Subtract sum right))) rest);
-      same_sum = same_from_nothing sum right (and_right (are_equations by) (is_nothing same_tree (polynomial (Subtract sum right))) rest);
+      equations = equal_from by (and_left (are_equations by) (is_nothing tree_eq (polynomial (Subtract sum right))) rest);
+      same_sum = same_from_nothing sum right (and_right (are_equations by) (is_nothing tree_eq (polynomial (Subtract sum right))) rest);
     })
 combined_from n0 by sum goal h = cc
 
@@ -188,3 +188,6 @@ follows_exact n0 by goal = (follows_from n0 by goal, follows_to n0 by goal)
 -- a list of hypotheses has one sum
 pub one_sum : (by : List (ℤ × Tree)) (s t : Tree) → IsSum by s → IsSum by t → s ≡ t
 one_sum by s t h k = same_some s t (sym (sum_to by s h) ∙ sum_to by t k)
+
+pub follows_decides : (n0 : ℤ) (by : List (ℤ × Tree)) (goal : Tree) → (follows n0 by goal ≡ true) ↔ Follows n0 by goal
+follows_decides n0 by goal = (follows_from n0 by goal, follows_to n0 by goal)

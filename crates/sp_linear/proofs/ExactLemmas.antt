@@ -8,7 +8,7 @@ use Rattle.std.proofs.lemmas.Bool.{eqb-true, eq-eqb}
 use Rattle.sp_term.specs.Tree.{Tree}
 use Rattle.sp_linear.specs.Polynomials.{Monomial, times, agree_on, is_same, coefficient, times_one, multiply, polynomial}
 use Rattle.sp_term.specs.Pools.{tree_at}
-use Rattle.sp_linear.specs.Equality.{same_tree}
+use Rattle.sp_simp.specs.Same.{tree_eq}
 use Rattle.sp_linear.specs.Linear.{IsNegative}
 use Rattle.sp_linear.specs.code.Sums.{trees_at, monomials_at, AreBelow, AllBelow}
 use Rattle.sp_linear.specs.code.Tests.{is_empty, zero_apart, is_negative, is_nothing}
@@ -16,7 +16,7 @@ use Rattle.sp_linear.proofs.EqualityLemmas.{trees_told}
 use Rattle.sp_linear.proofs.ProductLemmas.{AreTold, same_swap, same_back, not_nothing}
 use Rattle.sp_linear.proofs.LinearLemmas.{equal_true, true_equal, less_true}
 
-same_bool : (a b : Bool) → (a ≡ true → b ≡ true) → (b ≡ true → a ≡ true) → a ≡ b
+pub same_bool : (a b : Bool) → (a ≡ true → b ≡ true) → (b ≡ true → a ≡ true) → a ≡ b
 same_bool true b h k = sym (h refl)
 same_bool false true h k = k refl
 same_bool false false h k = refl
@@ -71,14 +71,14 @@ one_of a (inr h) = h
 true_less : (x y : ℤ) → x <ℤ y → int_lt x y ≡ true
 true_less x y h = grind (arith, ints)
 
-pub negative_exact : (t : Tree) → Decides (is_negative same_tree (polynomial t)) (IsNegative t)
+pub negative_exact : (t : Tree) → Decides (is_negative tree_eq (polynomial t)) (IsNegative t)
 negative_exact t =
     let ms = polynomial t in (
       (λ h. record {
-        number = less_true (coefficient same_tree [] ms) (pos 0) (and_left (int_lt (coefficient same_tree [] ms) (pos 0)) (zero_apart same_tree ms ms) h);
-        others = λ p some. one_of (coefficient same_tree p ms) (zero_from same_tree trees_told ms p some ms (and_right (int_lt (coefficient same_tree [] ms) (pos 0)) (zero_apart same_tree ms ms) h));
+        number = less_true (coefficient tree_eq [] ms) (pos 0) (and_left (int_lt (coefficient tree_eq [] ms) (pos 0)) (zero_apart tree_eq ms ms) h);
+        others = λ p some. one_of (coefficient tree_eq p ms) (zero_from tree_eq trees_told ms p some ms (and_right (int_lt (coefficient tree_eq [] ms) (pos 0)) (zero_apart tree_eq ms ms) h));
       }),
-      (λ h. ap₂ (λ a b. a && b) (true_less (coefficient same_tree [] ms) (pos 0) h.number) (zero_to same_tree ms h.others ms)),
+      (λ h. ap₂ (λ a b. a && b) (true_less (coefficient tree_eq [] ms) (pos 0) h.number) (zero_to tree_eq ms h.others ms)),
     )
 
 -- ---- numbered atoms

@@ -1,11 +1,17 @@
-mod BoundLemmas
-mod CoefficientLemmas
-mod DecideLemmas
-mod EqualityLemmas
-mod ExampleLemmas
-mod ExactLemmas
-mod FormLemmas
-mod LinearLemmas
-mod PolynomialLemmas
-mod ProductLemmas
-mod RingLemmas
+pub mod BoundLemmas
+pub mod CoefficientLemmas
+pub mod DecideLemmas
+pub mod EqualityLemmas
+pub mod ExactLemmas
+pub mod ExampleLemmas
+pub mod ExpandLemmas
+pub mod FormLemmas
+pub mod LimitLemmas
+pub mod LinearLemmas
+pub mod PlaceLemmas
+pub mod PolynomialLemmas
+pub mod ProductLemmas
+pub mod RingLemmas
+pub mod SumLemmas
+pub mod TakeLemmas
+pub mod ZeroLemmas

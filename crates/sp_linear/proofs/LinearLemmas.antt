@@ -10,7 +10,7 @@ use Rattle.sp_term.specs.Tree.{Tree, Literal, Add, Subtract, Multiply, Equal, Le
 use Rattle.sp_term.specs.Value.{Env, int_of, IsTrueIn, value}
 use Rattle.sp_linear.specs.Polynomials.{polynomial, coefficient_in}
 use Rattle.sp_linear.specs.Linear.{form_of, form_of_not, negated, is_equality, IsAllowed, IsSum, Nothing, One, IsNegative, Contradicts, Alone, WithGoal, IsCombined, Concludes, ByContradiction, ByEquations, Follows}
-use Rattle.sp_linear.specs.Equality.{same_tree}
+use Rattle.sp_simp.specs.Same.{tree_eq}
 use Rattle.sp_linear.proofs.RingLemmas.{not_negative, no_zero}
 use Rattle.sp_linear.proofs.PolynomialLemmas.{value_is}
 use Rattle.sp_linear.proofs.EqualityLemmas.{trees_told}
@@ -87,7 +87,7 @@ sum_zero e _ _ (One c h hs form sum allowed rest) equal is =
 
 negative : (e : Env) (t : Tree) → IsNegative t → int_of e t <ℤ pos 0
 negative e t h =
-    let f = constant_value same_tree trees_told (int_of e) (polynomial t) h.others in
+    let f = constant_value tree_eq trees_told (int_of e) (polynomial t) h.others in
     let g = h.number in
     omega (arith, ints, value_is e t)
 
@@ -111,7 +111,7 @@ no_zero_of (negsuc n) z h e = absurd (omega (arith, ints))
 by_equations : (e : Env) (n0 : ℤ) (by : List (ℤ × Tree)) (sum x y : Tree) → int_of e sum ≡ pos 0 → IsCombined n0 by sum x y → int_of e x ≡ int_of e y
 by_equations e n0 by sum x y z c =
     let right = Multiply (Literal n0) (Subtract y x) in
-    let f = same_value same_tree trees_told (int_of e) (polynomial sum) (polynomial right) c.same_sum in
+    let f = same_value tree_eq trees_told (int_of e) (polynomial sum) (polynomial right) c.same_sum in
     let g : n0 *ℤ (int_of e y -ℤ int_of e x) ≡ pos 0 = sym (value_is e right) ∙ sym f ∙ value_is e sum ∙ z in
     let k = no_zero_of n0 (int_of e y -ℤ int_of e x) c.positive g in
     omega (arith, ints)
@@ -125,4 +125,4 @@ pub linear_sound : (e : Env) (n0 : ℤ) (by : List (ℤ × Tree)) (goal : Tree) 
 linear_sound e n0 by goal f is = concluded e n0 by f.concludes.0 goal f.multiplier f.concludes.1 f.concludes.2 is
 
 pub values_same : (s t : Tree) → ((p : List Tree) → coefficient_in p s ≡ coefficient_in p t) → (e : Env) → int_of e s ≡ int_of e t
-values_same s t h e = sym (value_is e s) ∙ same_value same_tree trees_told (int_of e) (polynomial s) (polynomial t) h ∙ value_is e t
+values_same s t h e = sym (value_is e s) ∙ same_value tree_eq trees_told (int_of e) (polynomial s) (polynomial t) h ∙ value_is e t

@@ -1,4 +1,3 @@
-pub mod Equality
 pub mod Linear
 pub mod Polynomials
 pub mod code

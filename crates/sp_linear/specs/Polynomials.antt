@@ -1,7 +1,7 @@
 -- The polynomial of a term: whole numbers times products of atoms, and what each product has in all (this project's own).
 use Rattle.std.specs.Prelude.{ℕ, ◌+◌, ◌*◌, max, ℤ, pos, negsuc, ◌+ℤ◌, ◌*ℤ◌, Bool, true, ◌&&◌, if◌then◌else◌, ◌==◌, List, [], ◌∷◌, ◌++◌, unsigned_abs}
 use Rattle.sp_term.specs.Tree.{Tree, Literal, Add, Subtract, Multiply}
-use Rattle.sp_linear.specs.Equality.{same_tree}
+use Rattle.sp_simp.specs.Same.{tree_eq}
 
 -- a whole number times a product of atoms
 pub record Monomial (A : Type 0) : Type 0 where
@@ -60,7 +60,7 @@ polynomial t = atom_only t ∷ []
 
 -- what a product of atoms has in a term
 abbrev pub coefficient_in : List Tree → Tree → ℤ
-coefficient_in p t = coefficient same_tree p (polynomial t)
+coefficient_in p t = coefficient tree_eq p (polynomial t)
 
 -- the size of a term: no coefficient of its polynomial is greater in absolute value
 abbrev pub size : Tree → ℕ

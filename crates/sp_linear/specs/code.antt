@@ -1,2 +1,5 @@
+pub mod Parts
+pub mod Places
 pub mod Sums
+pub mod Table
 pub mod Tests

@@ -1,17 +1,11 @@
 //! What holds of polynomials and of the step `linear`, as contracts of functions that do nothing.
 
-ghost use Rattle.std.specs.Prelude.{◌≡◌, ◌↔◌, ℕ, ◌≤◌, ℤ, pos, ◌≤ℤ◌, false, true, IsTrue, List, Some, length, unsigned_abs};
+ghost use Rattle.std.specs.Prelude.{◌≡◌, ◌↔◌, ℕ, ◌≤◌, ℤ, pos, ◌≤ℤ◌, false, true, List, Some, length, unsigned_abs};
 ghost use Rattle.std.specs.List.{AllByRecursion};
 ghost use Rattle.sp_term.specs.Tree.{Tree};
 ghost use Rattle.sp_term.specs.Value.{Env, int_of, IsTrueIn};
-ghost use Rattle.sp_linear.specs.Equality.{same_tree};
 ghost use Rattle.sp_linear.specs.Polynomials.{polynomial, coefficient_in, size, count};
 ghost use Rattle.sp_linear.specs.Linear.{form_of, negated, is_equality, IsSum, Follows};
-
-/// The test of two trees passes exactly where they are one.
-pub fn trees_are_compared()
-    ensures { (x y : Tree) → IsTrue (same_tree x y) ↔ (x ≡ y) }
-{}
 
 /// A term's value comes from its coefficients alone.
 pub fn polynomials_keep_values()

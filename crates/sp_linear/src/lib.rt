@@ -2,7 +2,12 @@
 #![tactic(auto)]
 
 mod examples;
+mod expand;
 mod laws;
+mod limits;
+mod product;
+mod step;
+mod sums;
 
 pub use examples::{
     comparisons_follow, contradictions_close_every_goal, equations_follow, polynomials_by_example,
@@ -10,5 +15,6 @@ pub use examples::{
 };
 pub use laws::{
     a_list_has_one_sum, coefficients_are_within_sizes, forms_mean_their_formulas,
-    linear_keeps_truth, polynomials_keep_values, trees_are_compared,
+    linear_keeps_truth, polynomials_keep_values,
 };
+pub use step::follows;

@@ -2,7 +2,7 @@
 use Rattle.std.specs.Prelude.{◌+◌, ◌*◌, ◌^◌, max, ℤ, pos, Bool, true, false, if◌then◌else◌, Option, Some, None, ◌||◌, ◌&&◌, nat_le, nat_lt, int_lt, int_le, List, [], ◌∷◌, unsigned_abs}
 use Rattle.std.specs.Ordering.{int_eq}
 use Rattle.sp_term.specs.Tree.{Tree, Literal, Add, Subtract, Multiply, Equal}
-use Rattle.sp_linear.specs.Equality.{same_tree}
+use Rattle.sp_simp.specs.Same.{tree_eq}
 use Rattle.sp_linear.specs.Polynomials.{Monomial, coefficient, polynomial, size, count}
 use Rattle.sp_linear.specs.Linear.{form_of, negated, is_equality, goal_sides, sizes, counts}
 
@@ -41,15 +41,15 @@ are_equations (h ∷ hs) = is_equality h.1 && are_equations hs
 
 -- ---- the two ways
 abbrev pub against_goal : ℤ → Tree → Option Tree → Bool
-against_goal n0 sum (Some against) = is_negative same_tree (polynomial (Add (Multiply (Literal n0) against) sum))
+against_goal n0 sum (Some against) = is_negative tree_eq (polynomial (Add (Multiply (Literal n0) against) sum))
 against_goal n0 sum None = false
 
 abbrev pub contradicts : ℤ → Tree → Tree → Bool
-contradicts n0 sum goal = (int_eq n0 (pos 0) && is_negative same_tree (polynomial sum)) || against_goal n0 sum (negated goal)
+contradicts n0 sum goal = (int_eq n0 (pos 0) && is_negative tree_eq (polynomial sum)) || against_goal n0 sum (negated goal)
 
 abbrev pub combined : ℤ → List (ℤ × Tree) → Tree → Tree → Bool
 combined n0 by sum (Equal x y) =
-    int_le (pos 1) n0 && (are_equations by && is_nothing same_tree (polynomial (Subtract sum (Multiply (Literal n0) (Subtract y x)))))
+    int_le (pos 1) n0 && (are_equations by && is_nothing tree_eq (polynomial (Subtract sum (Multiply (Literal n0) (Subtract y x)))))
 combined n0 by sum goal = false
 
 abbrev pub concludes : ℤ → List (ℤ × Tree) → Tree → Option Tree → Bool
