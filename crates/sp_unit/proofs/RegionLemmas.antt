@@ -14,7 +14,7 @@ ties : (a : ℕ) → eq_by_cmp nat_cmp a a ≡ true
 ties a = search rules
 
 -- a key that passes, and none that does
-any_key : (p : ℕ → Bool) (ks : List ℕ) (q : ℕ) → list_any (eq_by_cmp nat_cmp q) ks ≡ true → p q ≡ true → list_any p ks ≡ true
+pub any_key : (p : ℕ → Bool) (ks : List ℕ) (q : ℕ) → list_any (eq_by_cmp nat_cmp q) ks ≡ true → p q ≡ true → list_any p ks ≡ true
 any_key p [] q h passes = absurd cc
 any_key p (k ∷ ks) q h passes = by (eq_by_cmp nat_cmp q k) (p k) refl refl h (any_key p ks q)
   where
@@ -38,7 +38,7 @@ module _ (image : ImageMap) where
   among : (q : ℕ) → maps.contains_key image q ≡ list_any (eq_by_cmp nat_cmp q) (maps.keys image)
   among q = maps.contains_key-keys image q
 
-  present : (q byte : ℕ) → maps.get image q ≡ Some byte → list_any (eq_by_cmp nat_cmp q) (maps.keys image) ≡ true
+  pub present : (q byte : ℕ) → maps.get image q ≡ Some byte → list_any (eq_by_cmp nat_cmp q) (maps.keys image) ≡ true
   present q byte is = sym (among q) ∙ ap is_some is
 
   absent : (q : ℕ) → maps.get image q ≡ None → list_any (eq_by_cmp nat_cmp q) (maps.keys image) ≡ true → ⊥
@@ -47,7 +47,7 @@ module _ (image : ImageMap) where
   le_false : (a b : ℕ) → b < a → nat_le a b ≡ false
   le_false a b lt = search rules
 
-  le_true : (a b : ℕ) → a ≤ b → nat_le a b ≡ true
+  pub le_true : (a b : ℕ) → a ≤ b → nat_le a b ≡ true
   le_true a b le = search rules
 
   and_false : (t : Bool) → (t && false) ≡ false

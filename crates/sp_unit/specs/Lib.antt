@@ -1,5 +1,7 @@
 pub mod Faults
+pub mod Kept
 pub mod Lines
+pub mod Origin
 pub mod Resolution
 pub mod SourceUnits
 pub mod Sources

@@ -4,3 +4,5 @@ pub mod Entries
 pub mod Places
 pub mod Scopes
 pub mod Aboves
+pub mod Sounds
+pub mod Building

@@ -19,7 +19,7 @@ use crate::refusal::UnitKind;
 use crate::regions::{meets_image, meets_stack, stack_clashes};
 use crate::resolve::{Bound, condition};
 use crate::scope::Scope;
-use crate::stretch::{has_end, has_instruction, inside, is_entered};
+use crate::stretch::{has_end, inside, is_entered, reaches_instruction};
 use crate::tables::{area_by, value_of, value_or_zero};
 use crate::words::has_word;
 use sp_asm::ItemKind;
@@ -73,7 +73,7 @@ fn is_stray_assert(place: Place, below: &[Entry<'_>]) -> bool
 {
     match place {
         Place::Outside => true,
-        Place::Header(_) | Place::Body(_) => !has_instruction(inside(below)),
+        Place::Header(_) | Place::Body(_) => !reaches_instruction(below),
     }
 }
 

@@ -1,3 +1,4 @@
+ghost use Rattle.sp_unit.specs.Kept.{UnitsOfSourcesKeepTheRules};
 ghost use Rattle.sp_unit.specs.Lines.{PlacesAreFound};
 ghost use Rattle.sp_unit.specs.Faults.{SourcesHaveOneCause};
 ghost use Rattle.sp_unit.specs.Sources.{ValuesAreOfTrees};
@@ -15,4 +16,9 @@ pub fn sources_have_one_cause()
 /// Expressions of annotation lines stand for the values of their trees.
 pub fn values_are_of_trees()
     ensures { ValuesAreOfTrees }
+{}
+
+/// The unit of a source keeps the rules of units: whatever the lines break none of, the program keeps.
+pub fn units_of_sources_keep_the_rules()
+    ensures { UnitsOfSourcesKeepTheRules }
 {}

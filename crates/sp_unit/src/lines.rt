@@ -15,7 +15,7 @@ use sp_base::Refused;
 use std::alloc::Global;
 
 /// The lines below one.
-fn lines_below<'a, 'b>(entries: &'b [Entry<'a>], i: usize) -> &'b [Entry<'a>]
+pub(crate) fn lines_below<'a, 'b>(entries: &'b [Entry<'a>], i: usize) -> &'b [Entry<'a>]
     requires { i < length entries.now }
     ensures { result.now ≡ drop (i + 1) entries.now }
 {

@@ -60,18 +60,19 @@ pub(crate) fn has_end(all: &[Entry<'_>]) -> bool
     any_end(all)
 }
 
-fn any_instruction(all: &[Entry<'_>]) -> bool
-    ensures { result ≡ list_any (λ e. lines.is_instruction (entry_of e)) all.now }
+/// Whether an instruction of a routine stands among the lines below a place of it.
+pub(crate) fn reaches_instruction(below: &[Entry<'_>]) -> bool
+    ensures { result ≡ list_any lines.is_instruction (lines.inside (entries_of below.now)) }
 {
-    all.iter().any(|e| e.is_instruction())
-}
-
-/// Whether one of these lines is an instruction.
-#[tactic(auto, using(crate::proofs::PlaceLemmas::any_mapped))]
-pub(crate) fn has_instruction(all: &[Entry<'_>]) -> bool
-    ensures { result ≡ list_any lines.is_instruction (entries_of all.now) }
-{
-    any_instruction(all)
+    for e in below {
+        if e.is_end() {
+            return false;
+        }
+        if e.is_instruction() {
+            return true;
+        }
+    }
+    false
 }
 
 /// The address of the first instruction of these lines.
