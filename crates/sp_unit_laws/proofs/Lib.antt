@@ -1,0 +1,4 @@
+pub mod InstructionLemmas
+pub mod OrderLemmas
+pub mod RoutineLemmas
+pub mod UnitLemmas

@@ -1,0 +1,5 @@
+pub mod Breaks
+pub mod Names
+pub mod Order
+pub mod Routines
+pub mod Units
