@@ -50,7 +50,7 @@ passed s front (x ∷ rest) h (y ∷ above) below e whole =
 right : AreRight source entries
 right above below e whole =
     passed source [] entries
-    (rw held refl, (refl, (refl, (refl, (refl, (refl, (refl, (refl, (refl, (refl, (refl, (refl, (refl, (refl, (refl, (refl, tt)))))))))))))))) above below e whole
+    (rw held refl, (refl, (refl, (refl, (refl, (refl, (refl, (rw held refl, (refl, (refl, (refl, (refl, (refl, (refl, (refl, (refl, (refl, (refl, (refl, (refl, (refl, (refl, tt)))))))))))))))))))))) above below e whole
 
 whole : IsOurs (with 100 200 (halts ∷ routine ∷ []))
 unfolding locations.both locations.only locations.none
@@ -113,6 +113,6 @@ units_by_example = record {
   other_last = λ h. let wrong : 200 ≡ 201 = (ends 100 200 100 201 h.stack).1 in omega arith;
   no_area = λ h. let wrong : [] ≡ areas = h.areas in cc;
   instruction_outside = λ p h.
-      let wrong : Some OutsideRoutine ≡ None = h.rules.right entries [] (Statement (record { line = at 16; addr = 3; label = None; kind = kind.Instr instr.Hlt })) refl in
+      let wrong : Some OutsideRoutine ≡ None = h.rules.right entries [] (Statement (record { line = at 22; addr = 3; label = None; kind = kind.Instr instr.Hlt })) refl in
       cc;
 }

@@ -1,5 +1,8 @@
 -- Lines that break a rule of units, each beside one that differs little and breaks none.
-use Rattle.std.specs.Prelude.{◌≡◌, ℕ, true, List, [], ◌∷◌, ◌++◌, Option, Some, None, codes, replicate}
+use Rattle.std.specs.Prelude.{◌≡◌, ℕ, true, List, [], ◌∷◌, ◌++◌, Option, Some, None, codes, replicate, flat_map}
+use Rattle.std.specs.List.{range_with_len}
+use Rattle.sp_base.specs.declared.location.Loc.TheVariants as loc
+use Rattle.sp_base.specs.Locs.{only}
 use Rattle.std.specs.FinMap as maps
 use Rattle.sp_base.specs.Image.{ImageMap}
 use Rattle.sp_isa.specs.declared.instr.Instr.TheVariants as instr
@@ -97,8 +100,15 @@ pub record StraysByExample : Type 0 where
   pub pre_after_end : breaks (begun ++ line End ∷ []) (Pre holds) [] ≡ Some Stray
   pub start : breaks begun Start [] ≡ None
   pub second_start : breaks (begun ++ line Start ∷ []) Start [] ≡ Some Stray
+  pub start_after_header : breaks (begun ++ nop ∷ []) Start [] ≡ Some Stray
+  pub start_outside : breaks [] Start [] ≡ Some Stray
   pub depth : breaks (begun ++ line Start ∷ []) (Depth (num 2)) [] ≡ None
   pub second_depth : breaks (begun ++ line (Depth (num 4)) ∷ []) (Depth (num 2)) [] ≡ Some Stray
+  pub reads_outside : breaks [] (Reads []) [] ≡ Some Stray
+  pub changes_outside : breaks [] (Changes []) [] ≡ Some Stray
+  pub ins_outside : breaks [] (Ins []) [] ≡ Some Stray
+  pub outs_outside : breaks [] (Outs []) [] ≡ Some Stray
+  pub post_outside : breaks [] (Post holds) [] ≡ Some Stray
   pub assertion : breaks begun (Assert holds) (nop ∷ line End ∷ []) ≡ None
   pub assertion_outside : breaks [] (Assert holds) (nop ∷ line End ∷ []) ≡ Some Stray
   pub assertion_at_end : breaks (begun ++ nop ∷ []) (Assert holds) (line End ∷ nop ∷ []) ≡ Some Stray
@@ -107,21 +117,32 @@ pub record StraysByExample : Type 0 where
   pub routine : breaks [] (Routine main) body ≡ None
   pub without_end : breaks [] (Routine main) (item (Some main) 5 (kind.Instr instr.Nop) ∷ []) ≡ Some Stray
   pub in_routine : breaks (line (Routine other) ∷ []) (Routine main) body ≡ Some Stray
+  pub in_body : breaks (line (Routine other) ∷ nop ∷ []) (Routine main) body ≡ Some Stray
   pub after_routine : breaks (line (Routine other) ∷ line End ∷ []) (Routine main) body ≡ None
 
 -- ---- What has no meaning
 
 pub record UnknownsByExample : Type 0 where
   pub stack : breaks [] (Stack (num 100) []) [] ≡ Some Unknown
+  pub stack_first : breaks [] (Stack [] (num 100)) [] ≡ Some Unknown
   pub byte : breaks [] (Byte other []) [] ≡ Some Unknown
+  pub word : breaks [] (Word other []) [] ≡ Some Unknown
+  pub bytes_at : breaks [] (Bytes other [] (num 1)) [] ≡ Some Unknown
   pub bytes : breaks [] (Bytes other (num 300) []) [] ≡ Some Unknown
   pub reads : breaks begun (Reads (listed.Area flag ∷ [])) [] ≡ None
   pub reads_unknown : breaks begun (Reads (listed.Area flag ∷ listed.Area other ∷ [])) [] ≡ Some Unknown
+  pub changes_unknown : breaks begun (Changes (listed.Area other ∷ [])) [] ≡ Some Unknown
+  pub locations : breaks begun (Reads (listed.Locs (only loc.A) ∷ [])) [] ≡ None
   pub port : breaks begun (Ins ([] ∷ [])) [] ≡ Some Unknown
+  pub out_port : breaks begun (Outs ([] ∷ [])) [] ≡ Some Unknown
   pub depth : breaks begun (Depth []) [] ≡ Some Unknown
   pub condition : breaks begun (Pre meaningless) [] ≡ Some Unknown
+  pub post : breaks begun (Post meaningless) [] ≡ Some Unknown
+  pub assertion : breaks begun (Assert meaningless) (nop ∷ []) ≡ Some Unknown
   -- of two ways the first
   pub stray_first : breaks [] (Pre meaningless) [] ≡ Some Stray
+  pub before_clash : breaks begun (Ins (num 256 ∷ [] ∷ [])) [] ≡ Some Unknown
+  pub before_not_here : breaks (begun ++ line Start ∷ []) (Post meaningless) [] ≡ Some Unknown
   pub other_label : breaks [] (Routine other) body ≡ Some Unknown
   pub label_alone : breaks [] (Routine main) (item (Some main) 5 kind.Label ∷ nop ∷ line End ∷ []) ≡ None
   pub second_instruction : breaks [] (Routine main) (nop ∷ item (Some main) 6 (kind.Instr instr.Nop) ∷ line End ∷ []) ≡ Some Unknown
@@ -149,6 +170,7 @@ pub record ClashesByExample : Type 0 where
   pub twice : breaks (line (Byte flag (num 300)) ∷ []) (Word flag (num 400)) [] ≡ Some Clash
   pub port : breaks begun (Outs (num 255 ∷ [])) [] ≡ None
   pub past_port : breaks begun (Outs (num 256 ∷ [])) [] ≡ Some Clash
+  pub past_in_port : breaks begun (Ins (num 255 ∷ num 256 ∷ [])) [] ≡ Some Clash
   pub changes : breaks begun (Changes (listed.Area flag ∷ [])) [] ≡ None
   pub changes_image : breaks begun (Changes (listed.Area table ∷ [])) [] ≡ Some Clash
   pub reads_image : breaks begun (Reads (listed.Area table ∷ [])) [] ≡ None
@@ -163,6 +185,7 @@ pub record PlacesByExample : Type 0 where
   pub space_inside : fault source begun (item None 0 kind.Space) [] ≡ Some NotHere
   pub org_inside : fault source begun (item None 0 kind.Org) [] ≡ Some NotHere
   pub equ_inside : fault source begun (item None 0 kind.Other) [] ≡ None
+  pub label_inside : fault source begun (item None 0 kind.Label) [] ≡ None
   pub word_in_pre : breaks begun (Pre of_stack) [] ≡ Some NotHere
   pub word_in_post : breaks begun (Post of_stack) [] ≡ Some NotHere
   pub word_in_assertion : breaks begun (Assert of_stack) (nop ∷ []) ≡ None
@@ -177,6 +200,10 @@ pub record PlacesByExample : Type 0 where
 
 -- ---- How many may stand
 
+-- a routine that ends
+abbrev pub ended : ℕ → List Entry
+ended n = line (Routine other) ∷ line End ∷ []
+
 pub record LimitsByExample : Type 0 where
   pub pre_64 : breaks (begun ++ replicate 63 (line (Pre holds))) (Pre holds) [] ≡ None
   pub pre_65 : breaks (begun ++ replicate 64 (line (Pre holds))) (Pre holds) [] ≡ Some TooMany
@@ -187,3 +214,11 @@ pub record LimitsByExample : Type 0 where
   pub next_instruction : breaks (begun ++ replicate 64 (line (Assert holds)) ++ nop ∷ []) (Assert holds) (nop ∷ []) ≡ None
   pub area_1024 : breaks (replicate 1023 (line (Byte flag (num 300)))) (Byte other (num 400)) [] ≡ None
   pub area_1025 : breaks (replicate 1024 (line (Byte flag (num 300)))) (Byte other (num 400)) [] ≡ Some TooMany
+  pub word_1025 : breaks (replicate 1024 (line (Word flag (num 300)))) (Word other (num 400)) [] ≡ Some TooMany
+  pub bytes_1025 : breaks (replicate 1024 (line (Bytes flag (num 300) (num 1)))) (Bytes other (num 400) (num 1)) [] ≡ Some TooMany
+  pub other_lines : breaks (replicate 1024 (line End)) (Byte other (num 400)) [] ≡ None
+  -- of two ways the first
+  pub clash_first : breaks (replicate 1024 (line (Byte flag (num 300)))) (Bytes other (num 400) (num 0)) [] ≡ Some Clash
+  pub place_first : breaks (begun ++ line Start ∷ replicate 64 (line (Post holds))) (Post holds) [] ≡ Some NotHere
+  pub routine_1024 : breaks (flat_map ended (range_with_len 0 1023)) (Routine main) body ≡ None
+  pub routine_1025 : breaks (flat_map ended (range_with_len 0 1024)) (Routine main) body ≡ Some TooMany

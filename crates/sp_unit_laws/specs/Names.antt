@@ -1,8 +1,9 @@
 -- What the names of annotations stand for, by example.
 use Rattle.std.specs.Prelude.{◌≡◌, ℕ, true, List, [], ◌∷◌, find, bytes_eq, codes, if◌then◌else◌, Some, None}
+use Rattle.sp_base.specs.declared.location.Loc.TheVariants as loc
 use Rattle.sp_model.specs.Note as model
 use Rattle.sp_model.specs.Note.{Now, AtEntry, Quantity}
-use Rattle.sp_note.specs.RawNotes.{RawNote, Literal, Constant, Named, Element, Address, Length, Operate, Compare, Connect, Quantify}
+use Rattle.sp_note.specs.RawNotes.{RawNote, Literal, Constant, Location, Pair, Cell, StackWord, Total, Named, Element, Address, Length, Negative, Parity, Operate, Compare, Not, Connect, Quantify}
 use Rattle.sp_prog.specs.declared.area.Area.{Area}
 use Rattle.sp_prog.specs.declared.area.AreaKind.TheVariants as kind
 use Rattle.sp_unit.specs.Faults.{area}
@@ -50,6 +51,15 @@ pub record NamesByExample : Type 0 where
   pub length : number m [] (Length buffer) ≡ Some (model.Literal 4)
   pub address_of_number : number m [] (Address limit) ≡ None
   pub length_of_number : number m [] (Length limit) ≡ None
+  pub literal : number m [] (Literal 3) ≡ Some (model.Literal 3)
+  pub register : number m [] (Location AtEntry loc.B) ≡ Some (model.Location AtEntry loc.B)
+  pub pair : number m [] (Pair Now model.BC) ≡ Some (model.Pair Now model.BC)
+  pub any_cell : number m [] (Cell AtEntry (Literal 3)) ≡ Some (model.Cell AtEntry (model.Literal 3))
+  pub stack_word : number m [] (StackWord 2) ≡ Some (model.StackWord 2)
+  pub total : number m [] (Total AtEntry (Literal 3) (Literal 4)) ≡ Some (model.Total AtEntry (model.Literal 3) (model.Literal 4))
+  pub negative : number m [] (Negative (Literal 3)) ≡ Some (model.Negative (model.Literal 3))
+  pub parity : number m [] (Parity (Literal 3)) ≡ Some (model.Parity (model.Literal 3))
+  pub difference : number m [] (Operate model.Subtract (Literal 3) (Literal 4)) ≡ Some (model.Operate model.Subtract (model.Literal 3) (model.Literal 4))
   pub of_part : number m [] (Operate model.Add (Literal 1) (Named Now (codes "X"))) ≡ None
   pub truth : number m [] (Constant true) ≡ None
 
@@ -83,4 +93,7 @@ pub record ConditionsByExample : Type 0 where
       ≡ Some (model.Quantify model.ForAll flag (model.Bound flag) (model.Literal 9) (model.Compare model.Equal (model.Bound flag) (model.Literal 0)))
   pub unknown_end : condition m [] (Quantify model.ForAll flag (Named Now (codes "X")) (Literal 9) flag_is_0) ≡ None
   pub unknown_side : condition m [] (Connect model.And flag_is_0 (Compare model.Equal (Named Now (codes "X")) (Literal 0))) ≡ None
+  pub truth : condition m [] (Constant true) ≡ Some (model.Constant true)
+  pub inverted : condition m [] (Not flag_is_0) ≡ Some (model.Not (model.Compare model.Equal (cell 0x2400) (model.Literal 0)))
+  pub inverted_unknown : condition m [] (Not (Compare model.Equal (Literal 0) (Named Now (codes "X")))) ≡ None
   pub number : condition m [] (Literal 1) ≡ None

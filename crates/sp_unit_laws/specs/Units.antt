@@ -41,13 +41,13 @@ first = codes "FIRST"
 abbrev pub entries : List Entry
 entries =
     says 0 (Stack (num 100) (num 200)) ∷ says 1 (Byte flag (num 300)) ∷ says 2 (Bytes table (num 0) (num 2))
-    ∷ says 3 (Routine main) ∷ (begun.below ++ says 12 (Routine first) ∷ says 13 Start
-    ∷ Statement (record { line = at 14; addr = 2; label = Some first; kind = kind.Instr instr.Hlt }) ∷ says 15 End ∷ [])
+    ∷ says 3 (Routine main) ∷ (begun.below ++ says 18 (Routine first) ∷ says 19 Start
+    ∷ Statement (record { line = at 20; addr = 2; label = Some first; kind = kind.Instr instr.Hlt }) ∷ says 21 End ∷ [])
 
 abbrev pub halts : declared.Routine
 halts = record {
   name = first;
-  line = at 12;
+  line = at 18;
   start = true;
   pre = [];
   post = [];
@@ -56,7 +56,7 @@ halts = record {
   ins = [];
   outs = [];
   depth = 0;
-  code = stmt 14 2 instr.Hlt [] ∷ [];
+  code = stmt 20 2 instr.Hlt [] ∷ [];
 }
 
 -- a program with the source's image and this stack region
@@ -75,4 +75,4 @@ pub record UnitsByExample : Type 0 where
   pub other_last : ¬ IsOurs (with 100 201 (halts ∷ routine ∷ []))
   pub no_area : ¬ IsOurs (record (with 100 200 (halts ∷ routine ∷ [])) { areas = [] })
   -- an instruction after the last `end` breaks a rule
-  pub instruction_outside : (p : Program) → ¬ IsUnitOf source (entries ++ Statement (record { line = at 16; addr = 3; label = None; kind = kind.Instr instr.Hlt }) ∷ []) p
+  pub instruction_outside : (p : Program) → ¬ IsUnitOf source (entries ++ Statement (record { line = at 22; addr = 3; label = None; kind = kind.Instr instr.Hlt }) ∷ []) p

@@ -28,6 +28,7 @@ returns c = record {
   twice = refl;
   port = refl;
   past_port = refl;
+  past_in_port = refl;
   changes = rw held refl;
   changes_image = rw held refl;
   reads_image = refl;

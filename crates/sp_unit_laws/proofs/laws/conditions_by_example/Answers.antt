@@ -8,5 +8,8 @@ returns c = record {
   inner_quantifier = refl;
   unknown_end = refl;
   unknown_side = refl;
+  truth = refl;
+  inverted = refl;
+  inverted_unknown = refl;
   number = refl;
 }

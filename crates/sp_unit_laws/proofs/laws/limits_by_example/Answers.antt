@@ -12,4 +12,11 @@ returns c = record {
   next_instruction = refl;
   area_1024 = refl;
   area_1025 = refl;
+  word_1025 = refl;
+  bytes_1025 = refl;
+  other_lines = refl;
+  clash_first = refl;
+  place_first = refl;
+  routine_1024 = refl;
+  routine_1025 = refl;
 }

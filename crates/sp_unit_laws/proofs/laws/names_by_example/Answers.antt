@@ -18,6 +18,15 @@ returns c = record {
   length = refl;
   address_of_number = refl;
   length_of_number = refl;
+  literal = refl;
+  register = refl;
+  pair = refl;
+  any_cell = refl;
+  stack_word = refl;
+  total = refl;
+  negative = refl;
+  parity = refl;
+  difference = refl;
   of_part = refl;
   truth = refl;
 }

@@ -10,6 +10,7 @@ returns c = record {
   space_inside = refl;
   org_inside = refl;
   equ_inside = refl;
+  label_inside = refl;
   word_in_pre = refl;
   word_in_post = refl;
   word_in_assertion = refl;
