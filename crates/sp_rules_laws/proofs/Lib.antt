@@ -1,0 +1,6 @@
+mod BoolLemmas
+mod FreshLemmas
+mod LogicLemmas
+mod NumberLemmas
+mod QuantifierLemmas
+mod StateLemmas
