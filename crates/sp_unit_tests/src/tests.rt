@@ -2,14 +2,15 @@ use sp_asm::assemble;
 use sp_base::{Line, Refused};
 use sp_lex::lines;
 use sp_note::read_notes;
-use sp_unit::{UnitKind, UnitRefusal, check};
+use sp_prog::{Lists, Noted, Routine, Stmt, Unit};
+use sp_unit::{UnitKind, UnitRefusal, check, join};
 use std::alloc::Global;
 use std::process::Abort;
 use std::test::Fail;
 
 /// Whether a source keeps the rules of units, or the line that breaks one first.
 fn checked(rt: &impl Abort, alloc: Global, source: &[u8]) -> Result<Result<(), UnitRefusal>, Fail> {
-    assert!(rt; source.len() < 10_000);
+    assert!(rt; source.len() < 100_000);
     let lines = lines(alloc, source)?;
     let Ok(listing) = assemble(alloc, source, &lines) else {
         panic!(rt; "not assembled: {source:?}");
@@ -638,4 +639,235 @@ fn lines_that_clash(rt: HostRuntime) -> Result<(), Fail> {
 #[test]
 fn lines_that_keep_the_rules(rt: HostRuntime) -> Result<(), Fail> {
     expect_right(&rt, rt.alloc(), &RIGHT)
+}
+
+static EDGES: [&[u8]; 12] = [
+    b";# stack 0, 0FFFEH\n",
+    b";# stack 2300H, 2300H\n",
+    b";# stack 1, 2\nDB 1\nORG 3\nDB 1\n",
+    b";# stack 2300H, 23FFH\n;# byte X, 0FFFFH\n",
+    b";# stack 2300H, 23FFH\n;# word X, 0FFFEH\n",
+    b";# stack 2300H, 23FFH\n;# bytes X, 0FFFFH, 1\n;# bytes Y, 1, 22FFH\n;# byte Z1, 2400H\n",
+    b";# stack 2300H, 23FFH\n;# byte X, 0\n;# routine R\n;# reads X\nR: RET\n;# end\n",
+    b";# stack 2300H, 23FFH\n;# byte X, 1\n;# routine R\n;# changes X\nR: RET\n;# end\n",
+    b";# stack 2300H, 23FFH\n;# routine R\n;# ins 255, 0\n;# outs 255\nR: RET\n;# end\n",
+    b";# stack 2300H, 23FFH\nR EQU 5\n;# routine L1\nX EQU R\nL1:\n\nL2: RET\n;# end\n",
+    b";# byte X, 1\n;# routine R\n;# start\n;# pre X = 1\nR: HLT\n;# end\n;# stack 2300H, 23FFH\n",
+    b";# stack 2300H, 23FFH\n;# byte R, 100H\n;# routine R\n;# pre R = 1 and for all R in 0..R: R < 5\nR: RET\n;# end\n",
+];
+
+#[test]
+fn lines_at_the_edges(rt: HostRuntime) -> Result<(), Fail> {
+    expect_right(&rt, rt.alloc(), &EDGES)
+}
+
+/// A text, a line so many times, and another text.
+fn repeated(
+    alloc: Global,
+    first: &[u8],
+    line: &[u8],
+    count: usize,
+    last: &[u8],
+) -> Result<Vec<u8>, Fail> {
+    let mut source = Vec::new(alloc);
+    source.extend_from_slice(first)?;
+    for _ in 0..count {
+        source.extend_from_slice(line)?;
+    }
+    source.extend_from_slice(last)?;
+    Ok(source)
+}
+
+/// Each line may stand 64 times in its place, and the 65th is one too many.
+static REPEATED: [(&[u8], &[u8], &[u8], u32); 5] = [
+    (
+        b";# stack 9, 10\n;# routine R\n",
+        b";# pre true\n",
+        b"R: RET\n;# end\n",
+        67,
+    ),
+    (
+        b";# stack 9, 10\n;# routine R\n;# pre false\n",
+        b";# post true\n",
+        b"R: RET\n;# end\n",
+        68,
+    ),
+    (
+        b";# stack 9, 10\n;# routine R\n",
+        b";# assert true\n",
+        b"R: RET\n;# end\n",
+        67,
+    ),
+    (
+        b";# stack 9, 10\n;# routine R\nR: NOP\n;# assert true\n NOP\n",
+        b";# assert true\n",
+        b" RET\n;# end\n",
+        70,
+    ),
+    (
+        b";# stack 9, 10\n;# routine R\n",
+        b";# assert true\nX SET 1\n",
+        b"R: RET\n;# end\n",
+        131,
+    ),
+];
+
+#[test]
+fn sixty_four_lines_of_a_kind(rt: HostRuntime) -> Result<(), Fail> {
+    let alloc = rt.alloc();
+    for (first, line, last, at) in &REPEATED {
+        let most = checked(&rt, alloc, &repeated(alloc, first, line, 64, last)?)?;
+        let more = checked(&rt, alloc, &repeated(alloc, first, line, 65, last)?)?;
+        let found = (most, more);
+        let wanted = (Ok(()), Err(Refused::At(Line(*at), UnitKind::TooMany)));
+        assert_eq!(rt; found, wanted, "at {line:?}");
+    }
+    Ok(())
+}
+
+/// The numbers of annotations' lines.
+fn add_noted(list: &mut Vec<usize>, notes: &[Noted]) -> Result<(), Fail> {
+    list.push(notes.len())?;
+    for note in notes {
+        list.push(note.line.0 as usize)?;
+    }
+    Ok(())
+}
+
+fn add_places(list: &mut Vec<usize>, lists: &Lists) -> Result<(), Fail> {
+    for place in lists.areas.as_slice() {
+        list.push(*place)?;
+    }
+    Ok(())
+}
+
+fn add_ports(list: &mut Vec<usize>, ports: &[u8]) -> Result<(), Fail> {
+    for port in ports {
+        list.push(usize::from(*port))?;
+    }
+    Ok(())
+}
+
+fn add_code(list: &mut Vec<usize>, code: &[Stmt]) -> Result<(), Fail> {
+    for stmt in code {
+        list.push(usize::from(stmt.addr))?;
+        add_noted(list, stmt.asserts.as_slice())?;
+    }
+    Ok(())
+}
+
+fn add_routine(list: &mut Vec<usize>, r: &Routine) -> Result<(), Fail> {
+    list.push(r.line.0 as usize)?;
+    list.push(usize::from(r.start))?;
+    add_noted(list, r.pre.as_slice())?;
+    add_noted(list, r.post.as_slice())?;
+    add_places(list, &r.reads)?;
+    add_places(list, &r.changes)?;
+    add_ports(list, r.ins.as_slice())?;
+    add_ports(list, r.outs.as_slice())?;
+    list.push(usize::from(r.depth))?;
+    add_code(list, r.code.as_slice())
+}
+
+/// A unit in numbers: the stack region; the address and the length of each area; of each routine its line, whether it is a
+/// start routine, how many `pre` and their lines, the same of `post`, the places of what it reads and of what it changes,
+/// its ports, its depth, and of each instruction its address, how many assertions and their lines.
+fn numbers(alloc: Global, unit: &Unit) -> Result<Vec<usize>, Fail> {
+    let mut list = Vec::new(alloc);
+    list.push(usize::from(unit.first))?;
+    list.push(usize::from(unit.last))?;
+    for area in unit.areas.as_slice() {
+        list.push(usize::from(area.addr))?;
+        list.push(usize::from(area.len))?;
+    }
+    for r in unit.routines.as_slice() {
+        add_routine(&mut list, r)?;
+    }
+    Ok(list)
+}
+
+/// Sources with the numbers of their units.
+static UNITS: [(&[u8], &[usize]); 5] = [
+    (b";# stack 1, 2\nDB 1\n", &[1, 2]),
+    (
+        b";# bytes X, 5, 3\n;# stack 2300H, 23FFH\n;# word Y, 2\n",
+        &[8960, 9215, 5, 3, 2, 2],
+    ),
+    // Assertions stand at the instruction below, and the last line of `depth` isn't needed.
+    (
+        b";# stack 9, 10\n;# routine R\n;# post A = 5\n;# changes A\n;# assert true\nR: MVI A,5\n;# assert A = 5\n;# assert true\nL1:\n RET\n;# end\n",
+        &[9, 10, 2, 0, 0, 1, 3, 0, 0, 1, 5, 2, 2, 7, 8],
+    ),
+    // Routines by rising address, whatever the order of their lines.
+    (
+        b";# stack 9, 10\nORG 100H\n;# routine R\n;# depth 2\nR: RET\n;# end\nORG 20H\n;# routine Q\n;# pre true\nQ: NOP\n RET\n;# end\n",
+        &[9, 10, 8, 0, 1, 9, 0, 0, 32, 0, 33, 0, 3, 0, 0, 0, 2, 256, 0],
+    ),
+    // Each area once, in the order of first mention; ports as they stand.
+    (
+        b";# stack 9, 10\n;# byte X, 100H\n;# byte Y, 101H\n;# routine R\n;# start\n;# reads Y, A, X\n;# changes X\n;# reads X, Y\n;# ins 3, 2\n;# outs 7\n;# ins 3\nR: HLT\n;# end\n",
+        &[
+            9, 10, 256, 1, 257, 1, 4, 1, 0, 0, 1, 0, 0, 3, 2, 3, 7, 0, 0, 0,
+        ],
+    ),
+];
+
+#[test]
+fn units_of_sources(rt: HostRuntime) -> Result<(), Fail> {
+    let alloc = rt.alloc();
+    for (source, wanted) in &UNITS {
+        let lines = lines(alloc, source)?;
+        let listing = assemble(alloc, source, &lines)?;
+        let notes = read_notes(alloc, source, &lines)?;
+        let unit = join(alloc, &listing, &notes)?;
+        assert_eq!(rt; numbers(alloc, &unit)?.as_slice(), *wanted, "at {source:?}");
+    }
+    Ok(())
+}
+
+/// Appends a number below 10,000 in four digits.
+fn add_number(source: &mut Vec<u8>, n: usize) -> Result<(), Fail> {
+    for place in [1000, 100, 10, 1] {
+        source.push(b'0' + (n / place % 10) as u8)?;
+    }
+    Ok(())
+}
+
+/// A stack region, and lines so many times; the number of the turn stands twice in them.
+fn numbered(
+    alloc: Global,
+    first: &[u8],
+    middle: &[u8],
+    last: &[u8],
+    count: usize,
+) -> Result<Vec<u8>, Fail> {
+    let mut source = Vec::new(alloc);
+    source.extend_from_slice(b";# stack 9000H, 9001H\n")?;
+    for n in 0..count {
+        source.extend_from_slice(first)?;
+        add_number(&mut source, n)?;
+        source.extend_from_slice(middle)?;
+        add_number(&mut source, n)?;
+        source.extend_from_slice(last)?;
+    }
+    Ok(source)
+}
+
+/// There may be 1,024 areas and 1,024 routines, and one more is one too many.
+static NUMBERED: [(&[u8], &[u8], &[u8], u32); 2] = [
+    (b";# byte A", b", ", b"\n", 1026),
+    (b";# routine R", b"\nR", b": RET\n;# end\n", 3074),
+];
+
+#[test]
+fn areas_and_routines(rt: HostRuntime) -> Result<(), Fail> {
+    let alloc = rt.alloc();
+    for (first, middle, last, at) in &NUMBERED {
+        let most = numbered(alloc, first, middle, last, 1024)?;
+        let more = numbered(alloc, first, middle, last, 1025)?;
+        let found = (checked(&rt, alloc, &most)?, checked(&rt, alloc, &more)?);
+        let wanted = (Ok(()), Err(Refused::At(Line(*at), UnitKind::TooMany)));
+        assert_eq!(rt; found, wanted, "at {first:?}");
+    }
+    Ok(())
 }
