@@ -1,0 +1,17 @@
+pub mod AnswerLemmas
+pub mod ArgumentLemmas
+pub mod BodyLemmas
+pub mod BracketLemmas
+pub mod CommandLemmas
+pub mod ExampleLemmas
+pub mod FileLemmas
+pub mod LineLemmas
+pub mod ListLemmas
+pub mod MemoryLemmas
+pub mod SolidLemmas
+pub mod SpaceLemmas
+pub mod StepLemmas
+pub mod TableLemmas
+pub mod TermLemmas
+pub mod UniqueLemmas
+pub mod WordLemmas
