@@ -1,0 +1,4 @@
+pub mod AdmissibleLemmas
+pub mod EntryLemmas
+pub mod EnvironmentLemmas
+pub mod StepLemmas

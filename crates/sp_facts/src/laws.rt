@@ -1,0 +1,21 @@
+ghost use Rattle.sp_facts.specs.Theorems.{EnvironmentsAgree, EnvironmentsAreAdmissible, EntriesBegin, StepsGoOn};
+
+/// The environment of a run has the values of its states, and what has those of a longer run has those of the shorter.
+pub fn environments_agree()
+    ensures { EnvironmentsAgree }
+{}
+
+/// The environment of a run is admissible, so that conditions are true in it.
+pub fn environments_are_admissible()
+    ensures { EnvironmentsAreAdmissible }
+{}
+
+/// Where a routine is entered with its preconditions true, the empty walk from its entry is executed.
+pub fn entries_begin()
+    ensures { EntriesBegin }
+{}
+
+/// An instruction that calls nothing is executed on its walk as it runs, by the choice that the flags make.
+pub fn steps_go_on()
+    ensures { StepsGoOn }
+{}
