@@ -1,6 +1,11 @@
-mod BoolLemmas
-mod FreshLemmas
-mod LogicLemmas
-mod NumberLemmas
-mod QuantifierLemmas
-mod StateLemmas
+pub mod BitLemmas
+pub mod BoolLemmas
+pub mod CellLemmas
+pub mod FreshLemmas
+pub mod LogicLemmas
+pub mod NumberLemmas
+pub mod QuantifierLemmas
+pub mod RewriteLemmas
+pub mod StateLemmas
+pub mod StepLemmas
+pub mod SumLemmas

@@ -38,7 +38,7 @@ simple_goal : (e : Env) (p : Tree) (b : Bool) → tree_eq (Truth true) p ≡ b �
 simple_goal e p true h all = subst (IsTrueIn e) (tree_one (Truth true) p h) refl
 simple_goal e p false h all = all.0 tt
 
-hypothesis_proper : (g : Subgoal) → IsProperSubgoal g → AllByRecursion (IsClosedTerm Formula) g.hypotheses
+pub hypothesis_proper : (g : Subgoal) → IsProperSubgoal g → AllByRecursion (IsClosedTerm Formula) g.hypotheses
 hypothesis_proper g h = every (IsClosedTerm Formula) g.hypotheses h.hypotheses
 
 proper_get : (hs : List Tree) (i : ℕ) (p : Tree) → slice_get hs i ≡ Some p → AllByRecursion (IsClosedTerm Formula) hs → IsClosedTerm Formula p

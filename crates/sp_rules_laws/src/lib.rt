@@ -3,7 +3,4 @@
 
 mod laws;
 
-pub use laws::{
-    closing_keeps_truth, hypotheses_keep_truth, linear_keeps_truth, numbers_keep_truth,
-    parts_of_goals_keep_truth, quantifiers_keep_truth,
-};
+pub use laws::steps_keep_truth;
