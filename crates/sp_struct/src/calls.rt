@@ -50,7 +50,7 @@ fn row_of(alloc: Global, routines: &[Routine], code: &[Stmt]) -> Result<BitSet, 
     Ok(row)
 }
 
-/// For each routine the routines that it calls.
+/// For each routine a row with the routines that it calls.
 fn rows_of(alloc: Global, unit: &Unit) -> Result<Vec<BitSet>, Memory>
     ensures { IfOk result (λ rows. TellCalls unit.now (length unit.now.routines) rows.items) }
 {
@@ -64,7 +64,7 @@ fn rows_of(alloc: Global, unit: &Unit) -> Result<Vec<BitSet>, Memory>
     Ok(rows)
 }
 
-/// For each routine the routines to which calls lead from it.
+/// For each routine a row with the routines to which calls lead from it, in one call or more.
 pub fn all_leads(alloc: Global, unit: &Unit) -> Result<Vec<BitSet>, Memory>
     ensures { IfOk result (λ rows. TellLeads unit.now rows.items) }
 {

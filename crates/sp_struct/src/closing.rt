@@ -5,7 +5,7 @@ ghost use Rattle.sp_struct.specs.code.Bits.{has};
 use crate::sets::BitSet;
 use std::alloc::AllocError;
 
-/// Joins a row with another one, if it has a place.
+/// Joins a row with that of a place, `through`, if the row has this place.
 fn join_row(row: &mut BitSet, place: usize, through: &BitSet)
     requires { length row.old ≡ length through.now }
     ensures size { length row.new ≡ length row.old }
@@ -16,7 +16,7 @@ fn join_row(row: &mut BitSet, place: usize, through: &BitSet)
     }
 }
 
-/// Goes on from each place by one place more.
+/// Lets the ways pass through one place more: each row that has this place gets what the place's own row has.
 fn pass(rows: &mut Vec<BitSet>, place: usize) -> Result<(), AllocError>
     requires place { place < length rows.old.items }
     requires rows { (words : ℕ) × AreRows words rows.old.items }
@@ -32,7 +32,9 @@ fn pass(rows: &mut Vec<BitSet>, place: usize) -> Result<(), AllocError>
     Ok(())
 }
 
-/// Goes on through all places.
+/// Puts into each row the places to which one step or more lead. Before, a row has the places one step away: with steps
+/// from 0 to 1 and from 1 to 2, row 0 has 1 before, and 1 and 2 afterwards. The ways pass through one place after another
+/// (Warshall's algorithm), so 1,024 rows take about a million tests.
 pub fn close(rows: &mut Vec<BitSet>) -> Result<(), AllocError>
     requires rows { (words : ℕ) × AreRows words rows.old.items }
     ensures size { OnOk result (length rows.new.items ≡ length rows.old.items) }

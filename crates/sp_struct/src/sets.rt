@@ -4,7 +4,7 @@ ghost use Rattle.sp_struct.specs.code.Bits.{has};
 use std::alloc::{AllocError, Global};
 use std::marker::Model;
 
-/// A set of numbers below a bound. Contracts see its words.
+/// A set of numbers below a bound, 64 to a word: number 70 is bit 6 of word 1. Contracts see its words.
 #[derive(Debug, Drop)]
 pub struct BitSet {
     words: Vec<u64>,
