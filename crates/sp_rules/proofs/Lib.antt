@@ -1,0 +1,4 @@
+mod ApplyLemmas
+mod FormulaLemmas
+mod StackLemmas
+mod WorkLemmas

@@ -1,0 +1,4 @@
+pub mod Cases
+pub mod Outcome
+pub mod StateCode
+pub mod Work

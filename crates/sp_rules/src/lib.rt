@@ -1,0 +1,10 @@
+//! The rules of scripts: steps on a list of subgoals, one call a rule (this project's own).
+#![tactic(auto)]
+
+mod formulas;
+mod goals;
+mod logic;
+mod work;
+
+pub use goals::{After, Case, Goals};
+pub use logic::{cases, close, cut, intro, side, split, unpack, use_both};
