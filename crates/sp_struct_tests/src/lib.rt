@@ -1,0 +1,15 @@
+//! The rules on structure against sources with known answers. It has tests alone, so that these rules are proved once.
+#![tactic(auto)]
+
+#[cfg(test)]
+mod control;
+#[cfg(test)]
+mod expected;
+#[cfg(test)]
+mod loops;
+#[cfg(test)]
+mod sound;
+#[cfg(test)]
+mod sources;
+#[cfg(test)]
+mod stack;
