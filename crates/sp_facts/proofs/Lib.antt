@@ -1,4 +1,7 @@
 pub mod AdmissibleLemmas
+pub mod AssertionLemmas
+pub mod BetweenLemmas
+pub mod CallLemmas
 pub mod EntryLemmas
 pub mod EnvironmentLemmas
 pub mod StepLemmas

@@ -1,4 +1,4 @@
-ghost use Rattle.sp_facts.specs.Theorems.{EnvironmentsAgree, EnvironmentsAreAdmissible, EntriesBegin, StepsGoOn};
+ghost use Rattle.sp_facts.specs.Theorems.{EnvironmentsAgree, EnvironmentsAreAdmissible, EntriesBegin, AssertionsBegin, StepsGoOn, CallsGoOn};
 
 /// The environment of a run has the values of its states, and what has those of a longer run has those of the shorter.
 pub fn environments_agree()
@@ -18,4 +18,14 @@ pub fn entries_begin()
 /// An instruction that calls nothing is executed on its walk as it runs, by the choice that the flags make.
 pub fn steps_go_on()
     ensures { StepsGoOn }
+{}
+
+/// Where an asserted instruction is reached with its assertions true, the empty walk from there is executed.
+pub fn assertions_begin()
+    ensures { AssertionsBegin }
+{}
+
+/// A whole call that leaves what its routine doesn't list, and after which its postconditions are true, is a step of the walk.
+pub fn calls_go_on()
+    ensures { CallsGoOn }
 {}

@@ -3,4 +3,7 @@
 
 mod laws;
 
-pub use laws::{entries_begin, environments_agree, environments_are_admissible, steps_go_on};
+pub use laws::{
+    assertions_begin, calls_go_on, entries_begin, environments_agree, environments_are_admissible,
+    steps_go_on,
+};
