@@ -1,5 +1,5 @@
-//! Sources with known answers of the whole check: each rule on structure and on flow on both sides of its edges, and sound
-//! ones. It has tests alone, so that the check is proved once.
+//! Sources with known answers of the whole check: each rule on flow on both sides of its edges, and sound ones. It has tests
+//! alone, so that the check is proved once.
 #![tactic(auto)]
 
 #[cfg(test)]
@@ -8,5 +8,3 @@ mod flow;
 mod helpers;
 #[cfg(test)]
 mod sound;
-#[cfg(test)]
-mod structure;
