@@ -1,3 +1,4 @@
+pub mod Ends
 pub mod Executions
 pub mod Histories
 pub mod Theorems

@@ -1,3 +1,4 @@
+ghost use Rattle.sp_facts.specs.Ends.{AssertionsHold, CalleesAreEntered, ReturnsKeepTheirWord, AccessesArePermitted};
 ghost use Rattle.sp_facts.specs.Theorems.{EnvironmentsAgree, EnvironmentsAreAdmissible, EntriesBegin, AssertionsBegin, StepsGoOn, CallsGoOn};
 
 /// The environment of a run has the values of its states, and what has those of a longer run has those of the shorter.
@@ -28,4 +29,24 @@ pub fn assertions_begin()
 /// A whole call that leaves what its routine doesn't list, and after which its postconditions are true, is a step of the walk.
 pub fn calls_go_on()
     ensures { CallsGoOn }
+{}
+
+/// Where a walk ends at an assertion and its condition is true, the assertion is.
+pub fn assertions_hold()
+    ensures { AssertionsHold }
+{}
+
+/// Where it ends at a call that is taken, the callee's preconditions are true.
+pub fn callees_are_entered()
+    ensures { CalleesAreEntered }
+{}
+
+/// Where it ends at a return, the postconditions are true, and what isn't listed is as at the entry.
+pub fn returns_keep_their_word()
+    ensures { ReturnsKeepTheirWord }
+{}
+
+/// Where it ends at an access, the address lies in an area that the routine permits.
+pub fn accesses_are_permitted()
+    ensures { AccessesArePermitted }
 {}
