@@ -1,5 +1,6 @@
 //! Command lines over files and a sink in memory. Expected texts are worked out by hand from the rules.
 mod assembling;
+mod checking;
 mod faults;
 mod files;
 mod form;

@@ -9,10 +9,10 @@ use Rattle.sp_cli.specs.declared.refusal.Refusal.{Refusal}
 use Rattle.sp_cli.specs.declared.refusal.Refusal.TheVariants as refusal
 use Rattle.sp_cli.specs.declared.refusal.Stop.{Stop}
 use Rattle.sp_cli.specs.declared.product.Product.{Product}
-use Rattle.sp_cli.specs.Command.{Verify, Asm, Run}
+use Rattle.sp_cli.specs.Command.{Verify, Asm, Run, Check}
 use Rattle.sp_cli.specs.Inputs.{Held, limit, RefusesFile}
 use Rattle.sp_cli.specs.Stages.{RefusesProgram}
-use Rattle.sp_cli.specs.code.Made.{IsProduct, IsRefusal, IsFile, IsAssembled, IsVerified, IsRunOfText, RefusesSource, RefusesText}
+use Rattle.sp_cli.specs.code.Made.{IsProduct, IsRefusal, IsFile, IsAssembled, IsVerified, IsRunOfText, IsFoundSound, RefusesSource, RefusesText, RefusesUnit}
 
 -- a file that is too large, of which nothing may be told
 pub too_large : (told : Bool) (file : Option (List ℕ)) (input : Input) → (IsTrue told → (bytes : List ℕ) × (file ≡ Some bytes) × (limit input < length bytes))
@@ -54,6 +54,24 @@ module _ (files : Store) (name other bytes : List ℕ) (is : IsTrue files.told �
     stands = inr ((bytes, refl, within), inr ((bytes, h.0.0, refl, h.0.1), inl (bytes, h.1.0, h.1.1, refl, h.1.2, h.1.3)));
   }
 
+  pub found_sound : (p : Product) → length bytes ≤ limit Source → IsFoundSound bytes p → IsProduct files (Check name) p
+  found_sound p within h = record {
+    held = source_held;
+    are_held = λ t. ap (λ f. record { source = f; scripts = None; image = None }) (sym (is t));
+    product = record {
+      accepts = ((bytes, refl, within), ((bytes, h.program, refl, h.sound), tt));
+      image = λ _ named. absurd cc;
+      report = (bytes, h.program, refl, h.sound, h.report);
+    };
+  }
+
+  pub not_sound : (r : Refusal) → length bytes ≤ limit Source → RefusesUnit bytes r → IsRefusal files (Check name) r
+  not_sound r within h = record {
+    held = source_held;
+    are_held = λ t. ap (λ f. record { source = f; scripts = None; image = None }) (sym (is t));
+    stands = inr ((bytes, refl, within), inl (bytes, h.0, h.1, refl, h.2, h.3));
+  }
+
   pub ran : (words : List (List ℕ)) (p : Product) → length bytes ≤ limit Image → IsRunOfText bytes words p → IsProduct files (Run name words) p
   ran words p within h = record {
     held = image_held;
@@ -74,6 +92,14 @@ module _ (files : Store) (name other bytes : List ℕ) (is : IsTrue files.told �
 
 pub source_refused : (files : Store) (name other : List ℕ) (r : Refusal) → IsFile (IsTrue files.told) (files.contents name) (λ file. RefusesFile Source file r) → IsRefusal files (Asm name other) r
 source_refused files name other r h = record {
+  held = record { source = h.content; scripts = None; image = None };
+  are_held = λ t. ap (λ f. record { source = f; scripts = None; image = None }) (h.is t);
+  stands = inl h.says;
+}
+
+pub checked_refused : (files : Store) (name : List ℕ) (r : Refusal) → IsFile (IsTrue files.told) (files.contents name) (λ file. RefusesFile Source file r)
+    → IsRefusal files (Check name) r
+checked_refused files name r h = record {
   held = record { source = h.content; scripts = None; image = None };
   are_held = λ t. ap (λ f. record { source = f; scripts = None; image = None }) (h.is t);
   stands = inl h.says;

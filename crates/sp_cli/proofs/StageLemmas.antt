@@ -8,6 +8,8 @@ use Rattle.sp_lex.specs.Reading.{IsFaultAt}
 use Rattle.sp_asm.specs.Source.{IsRefused}
 use Rattle.sp_hex.specs.Refusals.{IsCause}
 use Rattle.sp_hex.proofs.TextLaws as hex
+use Rattle.sp_check.specs.Refusals as check
+use Rattle.sp_check.proofs.AnswerLemmas as checked
 use Rattle.sp_first.specs.Program.{Reading, Meets}
 use Rattle.sp_first.specs.Right.{IsAccepted}
 use Rattle.sp_first.proofs.RightLaws.{one_reading}
@@ -16,7 +18,7 @@ use Rattle.sp_cli.specs.declared.refusal.Refusal.{Refusal}
 use Rattle.sp_cli.specs.declared.refusal.Refusal.TheVariants as refusal
 use Rattle.sp_cli.specs.Inputs.{Held, limit, IsWithin, RefusesFile}
 use Rattle.sp_cli.specs.Stages as stages
-use Rattle.sp_cli.specs.Stages.{Stage, stages_of, Passes, Refuses, RefusesProgram, FirstRow, RefusalsAreOne}
+use Rattle.sp_cli.specs.Stages.{Stage, stages_of, Passes, Refuses, RefusesProgram, FirstRow, RefusalsAreOne, check_refusal}
 
 same_bytes : (file : Option (List ℕ)) (s t : List ℕ) → file ≡ Some s → file ≡ Some t → s ≡ t
 same_bytes file s t h g = let e : Some s ≡ Some t = sym h ∙ g in cc
@@ -73,6 +75,10 @@ one_of stages.Records held a b h g =
     let same = same_bytes held.image h.0 g.0 h.3 g.3 in
     let parts = hex.one_refusal g.0 h.1.0 g.1.0 h.2 g.2 (subst (λ s. IsCause s h.1.0 h.2) same h.5) g.5 in
     h.4 ∙ (λ j. refusal.Image (record { 0 = parts.0 j }) (parts.1 j)) ∙ sym g.4
+one_of stages.Checking held a b h g =
+    let same = same_bytes held.source h.0 g.0 h.3 g.3 in
+    let parts = checked.one_refusal g.0 h.1.0 g.1.0 h.2 g.2 (subst (λ s. check.IsRefused s h.1.0 h.2) same h.5) g.5 in
+    h.4 ∙ (λ j. check_refusal (record { 0 = parts.0 j }) (parts.1 j)) ∙ sym g.4
 
 apart : (stage : Stage) (held : Held) (r : Refusal) → Passes stage held → Refuses stage held r → ⊥
 apart (stages.Reading input) held r h g = within_or_refused input _ r h g
@@ -83,6 +89,8 @@ apart stages.FirstForm held r h g =
     let scripts = same_bytes held.scripts g.1 h.1 g.3 h.3 in
     accepted_or_refused h.0 h.1 r h.4 (subst (λ t. RefusesProgram h.0 t r) scripts (subst (λ s. RefusesProgram s g.1 r) sources g.4))
 apart stages.Records held r h g = hex.never_both h.0 h.1 g.1.0 g.2 h.3 (subst (λ s. IsCause s g.1.0 g.2) (same_bytes held.image g.0 h.0 g.3 h.2) g.5)
+apart stages.Checking held r h g =
+    checked.is_right h.0 h.1 g.1.0 g.2 h.3 (subst (λ s. check.IsRefused s g.1.0 g.2) (same_bytes held.source g.0 h.0 g.3 h.2) g.5)
 
 one_row : (rows : List Stage) (held : Held) (a b : Refusal) → FirstRow rows held a → FirstRow rows held b → a ≡ b
 one_row [] held a b h g = absurd h

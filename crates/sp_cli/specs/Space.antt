@@ -7,26 +7,31 @@ use Rattle.sp_base.specs.Files.{Store, Output, IsFrontOf}
 use Rattle.sp_asm.specs.Assembly.{Row, image_of, names_of}
 use Rattle.sp_asm.specs.Source.{HasAssembly}
 use Rattle.sp_hex.specs.Hex.{text, StandsFor}
+use Rattle.sp_check.specs.Refusals.{HasSoundUnit}
+use Rattle.sp_check.specs.Units.{instruction_count}
+use Rattle.sp_prog.specs.Program.{Program}
 use Rattle.sp_first.specs.Right.{IsTheImage}
 use Rattle.sp_first.specs.Counts.{AreCounts}
 use Rattle.sp_run.specs.declared.settings.Options.{Options}
 use Rattle.sp_run.specs.Options.{options_of}
 use Rattle.sp_run.specs.Run.{IsRunText}
-use Rattle.sp_cli.specs.Command.{Command, Verify, Asm, Run, HasForm, AreHeld}
+use Rattle.sp_cli.specs.Command.{Command, Verify, Asm, Run, Check, HasForm, AreHeld}
 use Rattle.sp_cli.specs.Inputs.{Held}
 use Rattle.sp_cli.specs.Stages.{Stands, Accepts}
-use Rattle.sp_cli.specs.Texts.{accepted_text, assembled_text, refusal_text, too_long_text, usage_text}
+use Rattle.sp_cli.specs.Texts.{accepted_text, assembled_text, sound_text, refusal_text, too_long_text, usage_text}
 use Rattle.sp_cli.specs.declared.refusal.Refusal.{Refusal}
 use Rattle.sp_cli.specs.declared.status.Status.{Status}
 use Rattle.sp_cli.specs.declared.status.Status.TheVariants.{Done, Refused, Usage, ReadFault, WriteFault, SinkFault, Memory, TooLong}
 
 -- ---- The image
 
--- the image that a command writes: the one right image of the source, or the image of the source's assembly; a run writes none
+-- the image that a command writes: the one right image of the source, or the image of the source's assembly; a run and a
+-- check write none
 abbrev pub IsImageOf : Command → Held → ImageMap → Type 0
 IsImageOf (Verify source scripts image) held m = (bytes : List ℕ) × (held.source ≡ Some bytes) × IsTheImage bytes m
 IsImageOf (Asm source image) held m = (bytes : List ℕ) × (rows : List Row) × (held.source ≡ Some bytes) × HasAssembly bytes rows × (m ≡ image_of rows)
 IsImageOf (Run image options) held m = ⊥
+IsImageOf (Check source) held m = ⊥
 
 -- a file holds the text of that image, and the text stands for it
 pub record HoldsImage (c : Command) (held : Held) (file : Option (List ℕ)) : Type 0 where
@@ -56,6 +61,9 @@ IsReport (Asm source image) held report =
 IsReport (Run image words) held report =
     (bytes : List ℕ) × (m : ImageMap) × (options : Options) × (held.image ≡ Some bytes) × StandsFor bytes m
     × (options_of words ≡ Some options) × IsRunText m options report
+IsReport (Check source) held report =
+    (bytes : List ℕ) × (p : Program) × (held.source ≡ Some bytes) × HasSoundUnit bytes p
+    × (report ≡ sound_text (length p.routines) (instruction_count p))
 
 -- an evaluation takes too long, with so many nodes; these commands evaluate nothing
 abbrev pub IsTooLong : Command → Held → ℕ → Type 0

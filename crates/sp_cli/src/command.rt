@@ -2,7 +2,7 @@
 ghost use Rattle.std.specs.Prelude.{◌≡◌, ◌↔◌, ℕ, List, IsTrue, MatchOption, option_map};
 ghost use Rattle.sp_cli.specs.Command as cmd;
 ghost use Rattle.sp_cli.specs.Command.{words_of};
-ghost use Rattle.sp_cli.specs.code.Views.{verify_of, asm_of, run_of, command_of};
+ghost use Rattle.sp_cli.specs.code.Views.{verify_of, asm_of, run_of, check_of, command_of};
 
 /// The names of the files of `verify`.
 #[derive(Clone, Copy)]
@@ -26,11 +26,18 @@ pub struct Run<'a> {
     pub options: &'a [String],
 }
 
+/// The name of the file of `check`.
+#[derive(Clone, Copy)]
+pub struct Check<'a> {
+    pub source: &'a str,
+}
+
 #[derive(Clone, Copy)]
 pub enum Command<'a> {
     Verify(Verify<'a>),
     Asm(Asm<'a>),
     Run(Run<'a>),
+    Check(Check<'a>),
 }
 
 impl<'a> Command<'a> {
@@ -42,6 +49,7 @@ impl<'a> Command<'a> {
             Command::Verify(verify) => Some(verify.image),
             Command::Asm(asm) => Some(asm.image),
             Command::Run(_) => None,
+            Command::Check(_) => None,
         }
     }
 }
@@ -112,6 +120,23 @@ fn run_of(words: &[String]) -> Option<Run<'_>>
     }
 }
 
+fn check_of(words: &[String]) -> Option<Check<'_>>
+    ensures { MatchOption result ((source : List ℕ) → ¬ cmd.HasForm (words_of words.now) (cmd.Check source))
+        (λ c. cmd.HasForm (words_of words.now) (check_of c)) }
+{
+    match words {
+        [command, source] => {
+            let source = source.as_str();
+            if command.as_str() == "check" && is_file_name(source) {
+                Some(Check { source })
+            } else {
+                None
+            }
+        }
+        _ => None,
+    }
+}
+
 /// The command whose form the words have.
 pub fn command_of(words: &[String]) -> Option<Command<'_>>
     ensures { MatchOption result (cmd.HasNoForm (words_of words.now)) (λ c. cmd.HasForm (words_of words.now) (command_of c)) }
@@ -122,8 +147,11 @@ pub fn command_of(words: &[String]) -> Option<Command<'_>>
     if let Some(asm) = asm_of(words) {
         return Some(Command::Asm(asm));
     }
-    match run_of(words) {
-        Some(run) => Some(Command::Run(run)),
+    if let Some(run) = run_of(words) {
+        return Some(Command::Run(run));
+    }
+    match check_of(words) {
+        Some(check) => Some(Command::Check(check)),
         None => None,
     }
 }

@@ -15,6 +15,7 @@ ghost use Rattle.sp_cli.specs.code.Views.{command_of};
 
 use crate::Status;
 use crate::asm::assemble_input;
+use crate::check::check_input;
 use crate::command::{Command, command_of};
 use crate::product::Product;
 use crate::put::{finish, refuse};
@@ -37,6 +38,7 @@ fn produce<F: Files>(alloc: Global, files: &mut F, command: Command<'_>) -> Resu
         Command::Verify(names) => verify_inputs(alloc, files, names),
         Command::Asm(names) => assemble_input(alloc, files, names),
         Command::Run(names) => run_input(alloc, files, names),
+        Command::Check(names) => check_input(alloc, files, names),
     }
 }
 

@@ -2,9 +2,11 @@
 #![tactic(auto)]
 
 mod asm;
+mod check;
 mod command;
 mod dispatch;
 mod inputs;
+mod kinds;
 mod laws;
 mod product;
 mod put;

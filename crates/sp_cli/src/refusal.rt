@@ -1,8 +1,16 @@
 //! Why a command ends before anything is written.
+ghost use Rattle.std.specs.Prelude.{◌≡◌};
+ghost use Rattle.sp_cli.specs.Stages.{check_refusal};
+
 use sp_asm::AsmKind;
 use sp_base::{Line, Memory, Name, Refused};
+use sp_check::CheckKind;
+use sp_flow::FlowKind;
 use sp_hex::HexKind;
 use sp_lex::TextKind;
+use sp_note::NoteKind;
+use sp_struct::StructKind;
+use sp_unit::UnitKind;
 
 /// A file that a command reads.
 #[derive(Clone, Copy, Debug, PartialEq, Eq)]
@@ -21,6 +29,10 @@ pub enum Refusal {
     Open(Name, u64),
     Text(Line, TextKind),
     Asm(Line, AsmKind),
+    Note(Line, NoteKind),
+    Unit(Line, UnitKind),
+    Struct(Line, StructKind),
+    Flow(Line, FlowKind),
     Image(Line, HexKind),
 }
 
@@ -96,6 +108,34 @@ impl From<Refused<HexKind>> for Stop {
     fn from(refusal: Refused<HexKind>) -> Stop {
         match refusal {
             Refused::At(line, kind) => Stop::Refused(Refusal::Image(line, kind)),
+            Refused::Memory => Stop::Memory,
+        }
+    }
+}
+
+/// The refusal of a source at a line, under its own name.
+fn check_refusal(line: Line, kind: CheckKind) -> Refusal
+    ensures { result ≡ check_refusal line kind }
+{
+    match kind {
+        CheckKind::Text(kind) => Refusal::Text(line, kind),
+        CheckKind::Asm(kind) => Refusal::Asm(line, kind),
+        CheckKind::Note(kind) => Refusal::Note(line, kind),
+        CheckKind::Unit(kind) => Refusal::Unit(line, kind),
+        CheckKind::Struct(kind) => Refusal::Struct(line, kind),
+        CheckKind::Flow(kind) => Refusal::Flow(line, kind),
+    }
+}
+
+impl From<Refused<CheckKind>> for Stop {
+    ghost use Rattle.std.specs.Prelude.{◌≡◌};
+    ghost use Rattle.sp_cli.specs.code.Stops.{check_stop};
+
+    ghost from_gives = { λ r s. s ≡ check_stop r };
+
+    fn from(refusal: Refused<CheckKind>) -> Stop {
+        match refusal {
+            Refused::At(line, kind) => Stop::Refused(check_refusal(line, kind)),
             Refused::Memory => Stop::Memory,
         }
     }

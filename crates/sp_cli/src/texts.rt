@@ -1,12 +1,15 @@
 //! The texts that commands print.
 ghost use Rattle.std.specs.Prelude.{◌≡◌, ◌∷◌, ◌++◌, [], IfOk, OnOk, codes, decimal};
-ghost use Rattle.sp_cli.specs.Texts.{input_name, text_kind, asm_kind, image_kind, refusal_text, accepted_text, assembled_text};
+ghost use Rattle.sp_cli.specs.Texts.{input_name, text_kind, asm_kind, image_kind, refusal_text, accepted_text, assembled_text, sound_text};
 
+use crate::kinds::{note_kind, push_flow_kind, struct_kind, unit_kind};
 use crate::refusal::{Input, Refusal};
 use sp_asm::AsmKind;
 use sp_base::{Line, Name};
+use sp_flow::FlowKind;
 use sp_hex::HexKind;
 use sp_lex::TextKind;
+use sp_struct::StructKind;
 use std::alloc::{AllocError, Global};
 
 /// How an input is called in a refusal.
@@ -60,6 +63,26 @@ fn image_line(alloc: Global, at: Line, kind: HexKind) -> Result<Vec<u8>, AllocEr
     }
 }
 
+/// The line that says how the structure of a unit is wrong.
+fn struct_line(alloc: Global, at: Line, kind: StructKind) -> Result<Vec<u8>, AllocError>
+    ensures { IfOk result (λ line. line.items ≡ refusal_text (Refusal.Struct at kind)) }
+{
+    let kind = struct_kind(alloc, kind)?;
+    line_at(alloc, "refused Struct ", at, kind.as_str())
+}
+
+/// The line that says how the flow of a unit is wrong.
+fn flow_line(alloc: Global, at: Line, kind: FlowKind) -> Result<Vec<u8>, AllocError>
+    ensures { IfOk result (λ line. line.items ≡ refusal_text (Refusal.Flow at kind)) }
+{
+    let mut line = Vec::new(alloc);
+    push_count(alloc, &mut line, b"refused Flow ", u64::from(at.0))?;
+    line.push(b' ')?;
+    push_flow_kind(&mut line, kind)?;
+    line.push(b'\n')?;
+    Ok(line)
+}
+
 /// The line that says why a command refuses.
 pub fn refusal_line(alloc: Global, refusal: Refusal) -> Result<Vec<u8>, AllocError>
     ensures { IfOk result (λ line. line.items ≡ refusal_text refusal) }
@@ -71,6 +94,10 @@ pub fn refusal_line(alloc: Global, refusal: Refusal) -> Result<Vec<u8>, AllocErr
         Refusal::Open(name, number) => open_line(alloc, name, number),
         Refusal::Text(at, kind) => line_at(alloc, "refused Text ", at, text_kind(kind)),
         Refusal::Asm(at, kind) => line_at(alloc, "refused Asm ", at, asm_kind(kind)),
+        Refusal::Note(at, kind) => line_at(alloc, "refused Note ", at, note_kind(kind)),
+        Refusal::Unit(at, kind) => line_at(alloc, "refused Unit ", at, unit_kind(kind)),
+        Refusal::Struct(at, kind) => struct_line(alloc, at, kind),
+        Refusal::Flow(at, kind) => flow_line(alloc, at, kind),
         Refusal::Image(at, kind) => image_line(alloc, at, kind),
     }
 }
@@ -135,6 +162,17 @@ pub fn assembled_line(alloc: Global, bytes: u32, names: usize) -> Result<Vec<u8>
     let mut line = b"assembled".to_vec(alloc)?;
     push_count(alloc, &mut line, b" bytes=", u64::from(bytes))?;
     push_count(alloc, &mut line, b" names=", names as u64)?;
+    line.push(b'\n')?;
+    Ok(line)
+}
+
+/// The line that says that a unit is sound: how many routines it has, and how many instructions these have.
+pub fn sound_line(alloc: Global, routines: usize, instructions: u64) -> Result<Vec<u8>, AllocError>
+    ensures { IfOk result (λ line. line.items ≡ sound_text routines instructions) }
+{
+    let mut line = b"sound".to_vec(alloc)?;
+    push_count(alloc, &mut line, b" routines=", routines as u64)?;
+    push_count(alloc, &mut line, b" instructions=", instructions)?;
     line.push(b'\n')?;
     Ok(line)
 }

@@ -10,7 +10,7 @@ use Rattle.sp_cli.specs.declared.refusal.Input.{Input}
 use Rattle.sp_cli.specs.declared.refusal.Refusal.{Refusal}
 use Rattle.sp_cli.specs.declared.refusal.Refusal.TheVariants as refusal
 use Rattle.sp_cli.specs.declared.refusal.Input.TheVariants.{Source, Scripts, Image}
-use Rattle.sp_cli.specs.Command.{Command, Verify, Asm, Run, held_by, read_names}
+use Rattle.sp_cli.specs.Command.{Command, Verify, Asm, Run, Check, held_by, read_names}
 use Rattle.sp_cli.specs.Inputs.{IsWithin, RefusesFile, content, limit}
 use Rattle.sp_cli.specs.Session.{AreReads}
 use Rattle.sp_cli.specs.Stages.{stages_of}
@@ -23,6 +23,7 @@ inputs_are : (files : List ℕ → Option (List ℕ)) (command : Command)
 inputs_are files (Verify source scripts image) = refl
 inputs_are files (Asm source image) = refl
 inputs_are files (Run image options) = refl
+inputs_are files (Check source) = refl
 
 pub name_files : NameFiles
 name_files = record {
@@ -32,6 +33,8 @@ name_files = record {
   written = refl;
   written_by_verify = refl;
   run_writes_nothing = refl;
+  check = refl;
+  check_writes_nothing = refl;
 }
 
 -- ---- Limits

@@ -1,10 +1,10 @@
 -- Words that have a form, and words that have none.
-use Rattle.std.proofs.Common.{◌≡◌, ℕ, ◌<◌, List, [], ◌∷◌, length, get_or, drop, refl, sym, ap, subst, ◌∙◌, arith, codes, lit<}
+use Rattle.std.proofs.Common.{◌≡◌, ℕ, nat_eq, true, false, ◌<◌, List, [], ◌∷◌, length, get_or, drop, refl, sym, ap, subst, ◌∙◌, arith, codes, lit<}
 use Rattle.std.specs.Prelude.{IsSome}
 use Rattle.sp_lex.specs.Numbers.{number_of}
 use Rattle.sp_run.specs.Options.{options_of}
 use Rattle.sp_run.specs.Words.{given_from}
-use Rattle.sp_cli.specs.Command.{Verify, Asm, Run, HasForm, HasNoForm, IsFileName}
+use Rattle.sp_cli.specs.Command.{Verify, Asm, Run, Check, HasForm, HasNoForm, IsFileName}
 use Rattle.sp_command_laws.specs.Commands.{HaveForms, a, b, c, dashed}
 
 -- the first letter of the first word
@@ -21,10 +21,21 @@ module _ (words : List (List ℕ)) where
   abbrev NoRun : Type 0
   NoRun = (image : List ℕ) (options : List (List ℕ)) → ¬ HasForm words (Run image options)
 
-  none : NoVerify → NoAsm → NoRun → HasNoForm words
-  none verify asm run (Verify source scripts image) h = verify source scripts image h
-  none verify asm run (Asm source image) h = asm source image h
-  none verify asm run (Run image options) h = run image options h
+  abbrev NoCheck : Type 0
+  NoCheck = (source : List ℕ) → ¬ HasForm words (Check source)
+
+  none_with : NoCheck → NoVerify → NoAsm → NoRun → HasNoForm words
+  none_with check verify asm run (Verify source scripts image) h = verify source scripts image h
+  none_with check verify asm run (Asm source image) h = asm source image h
+  none_with check verify asm run (Run image options) h = run image options h
+  none_with check verify asm run (Check source) h = check source h
+
+  not_check : nat_eq (letter words) 99 ≡ false → NoCheck
+  not_check other source h = let e : true ≡ false = sym (ap (λ n. nat_eq n 99) (ap letter h.0)) ∙ other in absurd cc
+
+  -- words that begin with another letter than that of `check`
+  none : nat_eq (letter words) 99 ≡ false → NoVerify → NoAsm → NoRun → HasNoForm words
+  none other verify asm run = none_with (not_check other) verify asm run
 
   verify_by_letter : (letter words ≡ 118 → ⊥) → NoVerify
   verify_by_letter other source scripts image h = other (ap letter h.0)
@@ -63,57 +74,69 @@ no_run_here words is = run_by_letter words (λ e. apart 118 114 (lit< tt) (sym i
 
 no_source_is : HasNoForm (codes "verify" ∷ dashed ∷ b ∷ c ∷ [])
 no_source_is =
-    none (codes "verify" ∷ dashed ∷ b ∷ c ∷ []) (λ source scripts image h. no_name _ _ 1 h.0 refl h.1)
+    none (codes "verify" ∷ dashed ∷ b ∷ c ∷ []) refl (λ source scripts image h. no_name _ _ 1 h.0 refl h.1)
     (no_asm_here (codes "verify" ∷ dashed ∷ b ∷ c ∷ []) refl) (no_run_here (codes "verify" ∷ dashed ∷ b ∷ c ∷ []) refl)
 
 no_scripts_is : HasNoForm (codes "verify" ∷ a ∷ dashed ∷ c ∷ [])
 no_scripts_is =
-    none (codes "verify" ∷ a ∷ dashed ∷ c ∷ []) (λ source scripts image h. no_name _ _ 2 h.0 refl h.2)
+    none (codes "verify" ∷ a ∷ dashed ∷ c ∷ []) refl (λ source scripts image h. no_name _ _ 2 h.0 refl h.2)
     (no_asm_here (codes "verify" ∷ a ∷ dashed ∷ c ∷ []) refl) (no_run_here (codes "verify" ∷ a ∷ dashed ∷ c ∷ []) refl)
 
 no_image_is : HasNoForm (codes "verify" ∷ a ∷ b ∷ dashed ∷ [])
 no_image_is =
-    none (codes "verify" ∷ a ∷ b ∷ dashed ∷ []) (λ source scripts image h. no_name _ _ 3 h.0 refl h.3)
+    none (codes "verify" ∷ a ∷ b ∷ dashed ∷ []) refl (λ source scripts image h. no_name _ _ 3 h.0 refl h.3)
     (no_asm_here (codes "verify" ∷ a ∷ b ∷ dashed ∷ []) refl) (no_run_here (codes "verify" ∷ a ∷ b ∷ dashed ∷ []) refl)
 
 too_few_is : HasNoForm (codes "verify" ∷ a ∷ b ∷ [])
-too_few_is = none (codes "verify" ∷ a ∷ b ∷ []) (verify_by_length (codes "verify" ∷ a ∷ b ∷ []) (differ 3 4 (lit< tt)))
+too_few_is = none (codes "verify" ∷ a ∷ b ∷ []) refl (verify_by_length (codes "verify" ∷ a ∷ b ∷ []) (differ 3 4 (lit< tt)))
     (no_asm_here (codes "verify" ∷ a ∷ b ∷ []) refl) (no_run_here (codes "verify" ∷ a ∷ b ∷ []) refl)
 
 too_many_is : HasNoForm (codes "verify" ∷ a ∷ b ∷ c ∷ c ∷ [])
-too_many_is = none (codes "verify" ∷ a ∷ b ∷ c ∷ c ∷ []) (verify_by_length (codes "verify" ∷ a ∷ b ∷ c ∷ c ∷ []) (apart 5 4 (lit< tt)))
+too_many_is = none (codes "verify" ∷ a ∷ b ∷ c ∷ c ∷ []) refl (verify_by_length (codes "verify" ∷ a ∷ b ∷ c ∷ c ∷ []) (apart 5 4 (lit< tt)))
     (no_asm_here (codes "verify" ∷ a ∷ b ∷ c ∷ c ∷ []) refl) (no_run_here (codes "verify" ∷ a ∷ b ∷ c ∷ c ∷ []) refl)
 
 asm_no_source_is : HasNoForm (codes "asm" ∷ dashed ∷ c ∷ [])
 asm_no_source_is =
-    none (codes "asm" ∷ dashed ∷ c ∷ []) (verify_by_letter (codes "asm" ∷ dashed ∷ c ∷ []) (differ 97 118 (lit< tt)))
+    none (codes "asm" ∷ dashed ∷ c ∷ []) refl (verify_by_letter (codes "asm" ∷ dashed ∷ c ∷ []) (differ 97 118 (lit< tt)))
     (λ source image h. no_name _ _ 1 h.0 refl h.1)
     (run_by_letter (codes "asm" ∷ dashed ∷ c ∷ []) (differ 97 114 (lit< tt)))
 
 asm_no_image_is : HasNoForm (codes "asm" ∷ a ∷ dashed ∷ [])
 asm_no_image_is =
-    none (codes "asm" ∷ a ∷ dashed ∷ []) (verify_by_letter (codes "asm" ∷ a ∷ dashed ∷ []) (differ 97 118 (lit< tt)))
+    none (codes "asm" ∷ a ∷ dashed ∷ []) refl (verify_by_letter (codes "asm" ∷ a ∷ dashed ∷ []) (differ 97 118 (lit< tt)))
     (λ source image h. no_name _ _ 2 h.0 refl h.2)
     (run_by_letter (codes "asm" ∷ a ∷ dashed ∷ []) (differ 97 114 (lit< tt)))
 
 run_no_image_is : HasNoForm (codes "run" ∷ dashed ∷ [])
 run_no_image_is =
-    none (codes "run" ∷ dashed ∷ []) (verify_by_letter (codes "run" ∷ dashed ∷ []) (differ 114 118 (lit< tt)))
+    none (codes "run" ∷ dashed ∷ []) refl (verify_by_letter (codes "run" ∷ dashed ∷ []) (differ 114 118 (lit< tt)))
     (asm_by_letter (codes "run" ∷ dashed ∷ []) (apart 114 97 (lit< tt)))
     (λ image options h. no_name _ _ 1 h.0 refl h.1)
 
 run_no_value_is : HasNoForm (codes "run" ∷ c ∷ codes "--pc" ∷ [])
 run_no_value_is =
-    none (codes "run" ∷ c ∷ codes "--pc" ∷ []) (verify_by_letter (codes "run" ∷ c ∷ codes "--pc" ∷ []) (differ 114 118 (lit< tt)))
+    none (codes "run" ∷ c ∷ codes "--pc" ∷ []) refl (verify_by_letter (codes "run" ∷ c ∷ codes "--pc" ∷ []) (differ 114 118 (lit< tt)))
     (asm_by_letter (codes "run" ∷ c ∷ codes "--pc" ∷ []) (apart 114 97 (lit< tt))) no_value
+
+-- words of `check` that have no form
+none_of_check : (words : List (List ℕ)) → letter words ≡ 99 → NoCheck words → HasNoForm words
+none_of_check words is check =
+    none_with words check (verify_by_letter words (λ e. differ 99 118 (lit< tt) (sym is ∙ e)))
+    (asm_by_letter words (λ e. apart 99 97 (lit< tt) (sym is ∙ e))) (run_by_letter words (λ e. differ 99 114 (lit< tt) (sym is ∙ e)))
+
+check_no_source_is : HasNoForm (codes "check" ∷ dashed ∷ [])
+check_no_source_is = none_of_check (codes "check" ∷ dashed ∷ []) refl (λ source h. no_name _ _ 1 h.0 refl h.1)
+
+check_two_is : HasNoForm (codes "check" ∷ a ∷ b ∷ [])
+check_two_is = none_of_check (codes "check" ∷ a ∷ b ∷ []) refl (λ source h. apart 3 2 (lit< tt) (ap length h.0))
 
 capitals_is : HasNoForm (codes "ASM" ∷ a ∷ c ∷ [])
 capitals_is =
-    none (codes "ASM" ∷ a ∷ c ∷ []) (verify_by_letter (codes "ASM" ∷ a ∷ c ∷ []) (differ 65 118 (lit< tt)))
+    none (codes "ASM" ∷ a ∷ c ∷ []) refl (verify_by_letter (codes "ASM" ∷ a ∷ c ∷ []) (differ 65 118 (lit< tt)))
     (asm_by_letter (codes "ASM" ∷ a ∷ c ∷ []) (differ 65 97 (lit< tt))) (run_by_letter (codes "ASM" ∷ a ∷ c ∷ []) (differ 65 114 (lit< tt)))
 
 nothing_is : HasNoForm []
-nothing_is = none [] (verify_by_letter [] (differ 0 118 (lit< tt))) (asm_by_letter [] (differ 0 97 (lit< tt)))
+nothing_is = none [] refl (verify_by_letter [] (differ 0 118 (lit< tt))) (asm_by_letter [] (differ 0 97 (lit< tt)))
     (run_by_letter [] (differ 0 114 (lit< tt)))
 
 -- a letter that isn't `-`
@@ -136,6 +159,9 @@ have_forms = record {
   run = (refl, no_dash 99 (lit< tt), refl);
   run_no_image = run_no_image_is;
   run_no_value = run_no_value_is;
+  check = (refl, no_dash 97 (lit< tt));
+  check_no_source = check_no_source_is;
+  check_two = check_two_is;
   capitals = capitals_is;
   nothing = nothing_is;
 }

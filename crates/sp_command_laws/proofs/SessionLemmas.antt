@@ -7,7 +7,7 @@ use Rattle.sp_base.specs.declared.calls.Outcome.TheVariants as outcome
 use Rattle.sp_base.specs.Calls.{Call, call}
 use Rattle.sp_cli.specs.declared.status.Status.{Status}
 use Rattle.sp_cli.specs.declared.status.Status.TheVariants as status
-use Rattle.sp_cli.specs.Command.{Command, Verify, Asm, Run, image_name, read_names}
+use Rattle.sp_cli.specs.Command.{Command, Verify, Asm, Run, Check, image_name, read_names}
 use Rattle.sp_cli.specs.Session.{AreReads, AreWrites, FollowsReads, IsSession}
 use Rattle.sp_command_laws.specs.Commands.{a, b, c, done}
 use Rattle.sp_command_laws.specs.Sessions.{CallFiles, written}
@@ -158,6 +158,10 @@ call_files = record {
   run_done = λ calls. (
     run_calls calls,
     session (Run c []) status.Done [] calls done_is_fault refl,
+  );
+  check_done = λ calls. (
+    λ h. done_calls (Check a) calls h ∙ ap (λ writes. done a ∷ writes) h.are_writes,
+    session (Check a) status.Done [] calls done_is_fault refl,
   );
   asm_refused = λ calls. (refused_calls calls, refused_session calls);
   after_done = session (Asm a c) status.SinkFault (written ∷ []) (done a ∷ written ∷ []) sink_is_fault (inr refl) refl;

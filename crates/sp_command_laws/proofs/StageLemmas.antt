@@ -27,6 +27,9 @@ use Rattle.sp_hex.specs.Hex.{StandsFor, bytes_of}
 use Rattle.sp_hex.specs.Refusals.{IsCause}
 use Rattle.sp_hex.specs.code.Reading.{content_of, held_at, record_at, empty_from, reading}
 use Rattle.sp_hex.proofs.TextLaws.{cause_by, stands_by}
+use Rattle.sp_check.specs.Refusals.{BreaksUnit}
+use Rattle.sp_check.specs.declared.refusal.CheckKind.TheVariants as kind
+use Rattle.sp_unit.specs.declared.refusal.UnitKind.TheVariants.{NoStack}
 use Rattle.sp_command_laws.specs.Commands.{OrderRefusals}
 
 -- the lines of a source, where it has lines
@@ -76,6 +79,16 @@ empty_assembly = record {
   );
 }
 
+-- an empty source has no `stack` line
+no_stack : BreaksUnit [] 0 NoStack
+unfolding empty_assembly
+no_stack = record {
+  rows = [];
+  notes = [];
+  read = record { lines = empty_assembly.lines; read = empty_assembly.read; assembles = empty_assembly.assembles; annotated = refl };
+  cause = inl (refl, refl, refl);
+}
+
 no_end : IsCause [] 0 hex.NoEnd
 unfolding reading record_at held_at content_of bytes_of empty_from rows_of placed
 no_end = cause_by [] 0 hex.NoEnd refl
@@ -104,5 +117,7 @@ order_refusals = record {
       );
   assembled = (([], refl, lit≤ tt), (([], [], refl, no_lines), (([], [], refl, empty_assembly), tt)));
   records = inr (([], refl, lit≤ tt), inl ([], record { 0 = 0 }, hex.NoEnd, refl, refl, no_end));
+  checked_text = inr ((codes "'", refl, lit≤ tt), inl (codes "'", record { 0 = 1 }, kind.Text OpenQuote, refl, refl, open_quote));
+  checked_unit = inr (([], refl, lit≤ tt), inl ([], record { 0 = 0 }, kind.Unit NoStack, refl, refl, no_stack));
   loaded = ((codes ":00000001FF", refl, lit≤ tt), ((codes ":00000001FF", maps.empty, refl, end_alone), tt));
 }

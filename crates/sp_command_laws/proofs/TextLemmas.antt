@@ -16,9 +16,17 @@ print_texts = record {
   number = refl;
   syntax = refl;
   past_end = refl;
+  wide = refl;
+  no_stack = refl;
+  depths = refl;
+  uses = refl;
+  writes = refl;
+  port = refl;
+  reads = refl;
   record_sum = refl;
   no_end = refl;
   assembled = refl;
+  sound = refl;
   accepted = refl;
   too_long = refl;
 }

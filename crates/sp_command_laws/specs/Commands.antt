@@ -7,14 +7,15 @@ use Rattle.sp_base.specs.Calls.{Call, call}
 use Rattle.sp_lex.specs.declared.refusal.TextKind.TheVariants.{OpenQuote}
 use Rattle.sp_asm.specs.declared.refusal.AsmKind.TheVariants.{Syntax}
 use Rattle.sp_hex.specs.declared.refusal.HexKind.TheVariants.{NoEnd}
+use Rattle.sp_unit.specs.declared.refusal.UnitKind.TheVariants.{NoStack}
 use Rattle.sp_cli.specs.declared.refusal.Input.{Input}
 use Rattle.sp_cli.specs.declared.refusal.Input.TheVariants.{Source, Scripts, Image}
 use Rattle.sp_cli.specs.declared.refusal.Refusal.{Refusal}
 use Rattle.sp_cli.specs.declared.refusal.Refusal.TheVariants as refusal
-use Rattle.sp_cli.specs.Command.{Command, Verify, Asm, Run, HasForm, HasNoForm, held_by, image_name, read_names}
+use Rattle.sp_cli.specs.Command.{Command, Verify, Asm, Run, Check, HasForm, HasNoForm, held_by, image_name, read_names}
 use Rattle.sp_cli.specs.Inputs.{Held, IsWithin, RefusesFile, content, limit}
 use Rattle.sp_cli.specs.Session.{AreReads}
-use Rattle.sp_cli.specs.Stages.{Stage, Reading, Text, Statements, FirstForm, Records, Accepts, Stands, stages_of}
+use Rattle.sp_cli.specs.Stages.{Stage, Reading, Text, Statements, FirstForm, Records, Checking, Accepts, Stands, stages_of}
 
 -- three names of files, and one that begins like an option
 abbrev pub a : List ℕ
@@ -44,6 +45,9 @@ pub record HaveForms : Type 0 where
   pub run : HasForm (codes "run" ∷ c ∷ codes "--pc" ∷ codes "5" ∷ []) (Run c (codes "--pc" ∷ codes "5" ∷ []))
   pub run_no_image : HasNoForm (codes "run" ∷ dashed ∷ [])
   pub run_no_value : HasNoForm (codes "run" ∷ c ∷ codes "--pc" ∷ [])
+  pub check : HasForm (codes "check" ∷ a ∷ []) (Check a)
+  pub check_no_source : HasNoForm (codes "check" ∷ dashed ∷ [])
+  pub check_two : HasNoForm (codes "check" ∷ a ∷ b ∷ [])
   pub capitals : HasNoForm (codes "ASM" ∷ a ∷ c ∷ [])
   pub nothing : HasNoForm []
 
@@ -54,8 +58,10 @@ input_of Text = None
 input_of Statements = None
 input_of FirstForm = None
 input_of Records = None
+input_of Checking = None
 
--- the files that a command reads are its inputs, in the order of its stages; no other input is held, and a run writes nothing
+-- the files that a command reads are its inputs, in the order of its stages; no other input is held, and a run and a check
+-- write nothing
 pub record NameFiles : Type 0 where
   pub inputs : (files : List ℕ → Option (List ℕ)) (command : Command)
       → map files (read_names command) ≡ map (λ input. content input (held_by files command)) (filter_map input_of (stages_of command))
@@ -64,6 +70,8 @@ pub record NameFiles : Type 0 where
   pub written : image_name (Asm a c) ≡ Some c
   pub written_by_verify : image_name (Verify a b c) ≡ Some c
   pub run_writes_nothing : image_name (Run c []) ≡ None
+  pub check : stages_of (Check a) ≡ Reading Source ∷ Checking ∷ []
+  pub check_writes_nothing : image_name (Check a) ≡ None
 
 -- the limits of inputs
 pub record LimitFiles : Type 0 where
@@ -88,6 +96,8 @@ pub record OrderRefusals : Type 0 where
   pub statements : Stands (Asm a c) (holding (Some (codes "5")) None None) (refusal.Asm (record { 0 = 1 }) Syntax)
   pub assembled : Accepts (Asm a c) (holding (Some []) None None)
   pub records : Stands (Run c []) (holding None None (Some [])) (refusal.Image (record { 0 = 0 }) NoEnd)
+  pub checked_text : Stands (Check a) (holding (Some (codes "'")) None None) (refusal.Text (record { 0 = 1 }) OpenQuote)
+  pub checked_unit : Stands (Check a) (holding (Some []) None None) (refusal.Unit (record { 0 = 0 }) NoStack)
   pub loaded : Accepts (Run c []) (holding None None (Some (codes ":00000001FF")))
 
 -- a read that is done, and one that isn't

@@ -14,6 +14,11 @@ use Rattle.sp_lex.specs.declared.token.SourceLine.{SourceLine}
 use Rattle.sp_asm.specs.declared.refusal.AsmKind.{AsmKind}
 use Rattle.sp_asm.specs.Assembly.{Row, image_of, names_of}
 use Rattle.sp_hex.specs.Hex.{text, StandsFor}
+use Rattle.sp_check.specs.Refusals as check
+use Rattle.sp_check.specs.Refusals.{HasSoundUnit}
+use Rattle.sp_check.specs.Units.{instruction_count}
+use Rattle.sp_check.specs.declared.refusal.CheckKind.{CheckKind}
+use Rattle.sp_prog.specs.Program.{Program}
 use Rattle.sp_first.specs.Right.{IsAccepted, IsTheImage}
 use Rattle.sp_first.specs.Counts.{AreCounts}
 use Rattle.sp_run.specs.declared.settings.Options.{Options}
@@ -31,10 +36,10 @@ use Rattle.sp_cli.specs.declared.refusal.Input.{Input}
 use Rattle.sp_cli.specs.declared.product.Product.{Product}
 use Rattle.sp_cli.specs.Command.{Command, image_name, AreHeld}
 use Rattle.sp_cli.specs.Inputs.{Held}
-use Rattle.sp_cli.specs.Stages.{Stands, Accepts}
+use Rattle.sp_cli.specs.Stages.{Stands, Accepts, check_refusal}
 use Rattle.sp_cli.specs.Session.{AreReads}
 use Rattle.sp_cli.specs.Space.{IsImageOf, IsReport}
-use Rattle.sp_cli.specs.Texts.{assembled_text, accepted_text}
+use Rattle.sp_cli.specs.Texts.{assembled_text, accepted_text, sound_text}
 
 -- files were only read: they hold what they held, and no write failed
 pub record OnlyRead (before after : Store) : Type 0 where
@@ -117,6 +122,16 @@ abbrev pub RefusesSource : List ℕ → Refusal → Type 0
 RefusesSource source r =
     ((line : Line) × (kind : TextKind) × (r ≡ refusal.Text line kind) × IsFaultAt source line.0 kind)
     ⊎ (((lines : List SourceLine) × AreLines source lines) × ((line : Line) × (kind : AsmKind) × (r ≡ refusal.Asm line kind) × IsRefused source line.0 kind))
+
+-- the source has a sound unit, and this is the report
+pub record IsFoundSound (source : List ℕ) (p : Product) : Type 0 where
+  pub program : Program
+  pub sound : HasSoundUnit source program
+  pub report : p.report.items ≡ sound_text (length program.routines) (instruction_count program)
+
+-- a source is refused
+abbrev pub RefusesUnit : List ℕ → Refusal → Type 0
+RefusesUnit source r = (line : Line) × (k : CheckKind) × (r ≡ check_refusal line k) × check.IsRefused source line.0 k
 
 -- a text stands for no image
 abbrev pub RefusesText : List ℕ → Refusal → Type 0

@@ -4,8 +4,10 @@ use Rattle.sp_base.specs.declared.refused.Refused.TheVariants as refused
 use Rattle.sp_lex.specs.declared.refusal.TextKind.{TextKind}
 use Rattle.sp_asm.specs.declared.refusal.AsmKind.{AsmKind}
 use Rattle.sp_hex.specs.declared.refusal.HexKind.{HexKind}
+use Rattle.sp_check.specs.declared.refusal.CheckKind.{CheckKind}
 use Rattle.sp_first.specs.declared.verifier.Refusal.{Refusal}
 use Rattle.sp_first.specs.declared.verifier.Refusal.TheVariants as verifier
+use Rattle.sp_cli.specs.Stages.{check_refusal}
 use Rattle.sp_cli.specs.declared.refusal.Refusal.TheVariants as refusal
 use Rattle.sp_cli.specs.declared.refusal.Stop.{Stop}
 use Rattle.sp_cli.specs.declared.refusal.Stop.TheVariants as stop
@@ -17,6 +19,10 @@ text_stop refused.Memory = stop.Memory
 abbrev pub asm_stop : Refused AsmKind → Stop
 asm_stop (refused.At line kind) = stop.Refused (refusal.Asm line kind)
 asm_stop refused.Memory = stop.Memory
+
+abbrev pub check_stop : Refused CheckKind → Stop
+check_stop (refused.At line kind) = stop.Refused (check_refusal line kind)
+check_stop refused.Memory = stop.Memory
 
 abbrev pub image_stop : Refused HexKind → Stop
 image_stop (refused.At line kind) = stop.Refused (refusal.Image line kind)

@@ -1,7 +1,7 @@
-use Rattle.std.proofs.Common.{ap, subst, ◌≡◌, rules}
+use Rattle.std.proofs.Common.{ap, sym, subst, ◌∙◌, ◌≡◌, rules}
 use Rattle.sp_cli.specs.declared.status.Status.TheVariants as status
 use Rattle.sp_cli.specs.Command.{Verify, image_name, held_by, words_of}
-use Rattle.sp_cli.specs.Space.{HoldsImage, ImageAfter}
+use Rattle.sp_cli.specs.Space.{HoldsImage, ImageAfter, SinkAfter}
 use Rattle.sp_cli.specs.Stages.{Stands, Accepts}
 use Rattle.sp_cli.specs.Texts.{usage_text}
 use Rattle.sp_cli.specs.code.Put.{PutEnds}
@@ -43,3 +43,13 @@ returns-in-None-clause-sink_usage g c = λ none told.
     let line : c.as_bytes.result.now ≡ usage_text = search rules in
     let ends = subst (λ text. PutEnds status.Usage text (g.S.Sink.output c.args.out.now) (g.S.Sink.output c.finish.new.out) c.finish.result) line c.finish.ensures.ends in
     sink_as_usage (g.S.Sink.output c.args.out.now) (g.S.Sink.output c.finish.new.out) c.finish.result told ends
+
+pub returns-in-Some-clause-sink : goal.returns-in-Some-clause-sink
+returns-in-Some-clause-sink g c = λ d form told.
+    let files = g.F.Files.store c.args.files.now in
+    let after = c.execute.ensures.after in
+    let same = one_form (words_of c.args.words.now) d (command_of c.in-Some.command) form c.in-Some.ensures in (
+      after.held,
+      (λ t. after.are_held t ∙ ap (λ e. held_by files.contents e) (sym same)),
+      subst (λ e. SinkAfter c.execute.result e after.held (g.S.Sink.output c.args.out.now) (g.S.Sink.output c.execute.new.out)) (sym same) (after.sink told),
+    )
