@@ -1,11 +1,14 @@
 pub mod BitLemmas
 pub mod BoolLemmas
 pub mod CellLemmas
+pub mod ClosedLemmas
 pub mod FreshLemmas
 pub mod LogicLemmas
 pub mod NumberLemmas
+pub mod ProperLemmas
 pub mod QuantifierLemmas
 pub mod RewriteLemmas
+pub mod SimpleLemmas
 pub mod StateLemmas
 pub mod StepLemmas
 pub mod SumLemmas

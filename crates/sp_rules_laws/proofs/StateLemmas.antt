@@ -22,7 +22,7 @@ abbrev pub RowKeeps : Step → Type 0
 RowKeeps step = (image : ImageMap) (stack : Region) (cs : List Change) (g : Subgoal) (made : List New) → IsProperSubgoal g → AllByRecursion IsProperChange cs → IsProperStep image step → Row cs g step made →
     AllByRecursion (λ n. IsValid image stack cs (new_subgoal g.hypotheses n)) made → IsValid image stack cs g
 
-placed_is : (hs : List Tree) (rest : List Subgoal) (made : List New) (gs : List Subgoal) → after hs rest made ≡ Some gs → map (new_subgoal hs) made ++ rest ≡ gs
+pub placed_is : (hs : List Tree) (rest : List Subgoal) (made : List New) (gs : List Subgoal) → after hs rest made ≡ Some gs → map (new_subgoal hs) made ++ rest ≡ gs
 placed_is hs rest made gs h = same_some _ gs (if_some (are_within_limits (length hs) made && may_be_subgoals (1 + length rest) (length made + length rest)) _ gs h).1
 
 pub kept : (step : Step) → RowKeeps step → KeepsTruth step

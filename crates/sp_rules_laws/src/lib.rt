@@ -3,4 +3,4 @@
 
 mod laws;
 
-pub use laws::steps_keep_truth;
+pub use laws::{states_stay_proper, steps_keep_truth};
