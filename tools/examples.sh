@@ -1,6 +1,7 @@
 #!/usr/bin/env bash
-# Tries the examples: verifies each that has NAME.scripts, assembles each that has NAME.asm.out, runs each that has NAME.run, and
-# tries each source and image of examples/refused. Images and printed texts must be those that stand beside the example.
+# Tries the examples: verifies each that has NAME.scripts, assembles each that has NAME.asm.out, checks each that has
+# NAME.check.out, runs each that has NAME.run, tries each source and image of examples/refused, and checks each source of
+# examples/sound and examples/unsound. Images and printed texts must be those that stand beside the example.
 # Then it tries the statuses that files and a sink with faults give, with what the wrapper says of them, and the transcripts
 # that the documents show. What differs is named. SPACE8080 may name another program.
 set -u
@@ -42,6 +43,13 @@ assemble_example() {
     compare "$1" "$1.hex" "$image"
 }
 
+# Checks the source that the second word names; the text must be that in the file of the first.
+check_example() {
+    tried=$((tried + 1))
+    "$SPACE8080" check "$2" > "$text" || complain "$2" "check ends with $?"
+    compare "$2" "$1" "$text"
+}
+
 # Each line of NAME.run has the option words of one run.
 run_example() {
     local words
@@ -75,16 +83,23 @@ must_say() {
 
 for folder in examples/*/; do
     name="$folder$(basename "$folder")"
-    [ "$folder" != examples/refused/ ] || continue
+    case "$folder" in examples/refused/ | examples/sound/ | examples/unsound/) continue ;; esac
     before="$tried"
     [ ! -e "$name.scripts" ] || verify_example "$name"
     [ ! -e "$name.asm.out" ] || assemble_example "$name"
+    [ ! -e "$name.check.out" ] || check_example "$name.check.out" "$name.asm"
     [ ! -e "$name.run" ] || run_example "$name"
     [ "$tried" -gt "$before" ] || complain "$name" "nothing to try"
 done
 
 for source in examples/refused/*.asm; do
     must_refuse "${source%.asm}.out" asm "$source" "$image"
+done
+for source in examples/sound/*.asm; do
+    check_example "${source%.asm}.out" "$source"
+done
+for source in examples/unsound/*.asm; do
+    must_refuse "${source%.asm}.out" check "$source"
 done
 for hex in examples/refused/*.hex; do
     must_refuse "${hex%.hex}.out" run "$hex"

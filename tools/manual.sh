@@ -1,7 +1,7 @@
 #!/usr/bin/env bash
 # Tries the transcripts that documents show. A transcript is a fenced block whose first line begins with `$ `: such lines are
 # commands, and below each stands what it prints. The commands of one document run one after another in a folder of their
-# own, which has the program and a copy of the examples. With no words the documents are the manual and the read-me.
+# own, which has the program and a copy of the examples. With no words the documents are the manual with its chapters and the read-me.
 # SPACE8080 may name another program.
 set -u
 cd "$(dirname "$0")/.." || exit 1
@@ -46,7 +46,7 @@ try_document() {
     echo "$name: $(find "$place/transcripts" -type f | wc -l) transcripts tried"
 }
 
-[ "$#" -gt 0 ] || set -- docs/MANUAL.md README.md
+[ "$#" -gt 0 ] || set -- docs/MANUAL.md docs/manual/*.md README.md
 for document in "$@"; do
     try_document "$document"
 done

@@ -1,0 +1,8 @@
+;# stack 2300H, 23FFH
+;# routine FIVE
+;# changes A
+FIVE:   MVI  A,5
+;# end
+;# routine NONE
+NONE:   RET
+;# end

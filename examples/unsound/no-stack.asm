@@ -1,0 +1,6 @@
+;# routine FIVE
+;# post A = 5
+;# changes A
+FIVE:   MVI  A,5
+        RET
+;# end

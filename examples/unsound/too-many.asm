@@ -1,0 +1,71 @@
+;# stack 2300H, 23FFH
+;# routine FIVE
+;# post A >= 0
+;# post A >= 0
+;# post A >= 0
+;# post A >= 0
+;# post A >= 0
+;# post A >= 0
+;# post A >= 0
+;# post A >= 0
+;# post A >= 0
+;# post A >= 0
+;# post A >= 0
+;# post A >= 0
+;# post A >= 0
+;# post A >= 0
+;# post A >= 0
+;# post A >= 0
+;# post A >= 0
+;# post A >= 0
+;# post A >= 0
+;# post A >= 0
+;# post A >= 0
+;# post A >= 0
+;# post A >= 0
+;# post A >= 0
+;# post A >= 0
+;# post A >= 0
+;# post A >= 0
+;# post A >= 0
+;# post A >= 0
+;# post A >= 0
+;# post A >= 0
+;# post A >= 0
+;# post A >= 0
+;# post A >= 0
+;# post A >= 0
+;# post A >= 0
+;# post A >= 0
+;# post A >= 0
+;# post A >= 0
+;# post A >= 0
+;# post A >= 0
+;# post A >= 0
+;# post A >= 0
+;# post A >= 0
+;# post A >= 0
+;# post A >= 0
+;# post A >= 0
+;# post A >= 0
+;# post A >= 0
+;# post A >= 0
+;# post A >= 0
+;# post A >= 0
+;# post A >= 0
+;# post A >= 0
+;# post A >= 0
+;# post A >= 0
+;# post A >= 0
+;# post A >= 0
+;# post A >= 0
+;# post A >= 0
+;# post A >= 0
+;# post A >= 0
+;# post A >= 0
+;# post A >= 0
+;# post A >= 0
+;# changes A
+FIVE:   MVI  A,5
+        RET
+;# end

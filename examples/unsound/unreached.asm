@@ -1,0 +1,8 @@
+;# stack 2300H, 23FFH
+;# routine FIVE
+;# changes A
+FIVE:   MVI  A,5
+        RET
+        MVI  A,6
+        RET
+;# end
