@@ -2,7 +2,6 @@
 ;# routine FIVE
 ;# post A = FIFE
 ;# changes A
-FIVE    EQU  5
-FIRST:  MVI  A,FIVE
+FIVE:   MVI  A,5
         RET
 ;# end
