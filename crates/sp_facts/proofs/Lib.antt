@@ -1,4 +1,5 @@
 pub mod AdmissibleLemmas
+pub mod AlongLemmas
 pub mod AssertionLemmas
 pub mod BetweenLemmas
 pub mod CallLemmas

@@ -1,3 +1,4 @@
+pub mod Along
 pub mod Ends
 pub mod Executions
 pub mod Histories

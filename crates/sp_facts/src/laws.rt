@@ -1,3 +1,4 @@
+ghost use Rattle.sp_facts.specs.Along.{RunsAreExecuted};
 ghost use Rattle.sp_facts.specs.Ends.{AssertionsHold, CalleesAreEntered, ReturnsKeepTheirWord, AccessesArePermitted};
 ghost use Rattle.sp_facts.specs.Theorems.{EnvironmentsAgree, EnvironmentsAreAdmissible, EntriesBegin, AssertionsBegin, StepsGoOn, CallsGoOn};
 
@@ -29,6 +30,11 @@ pub fn assertions_begin()
 /// A whole call that leaves what its routine doesn't list, and after which its postconditions are true, is a step of the walk.
 pub fn calls_go_on()
     ensures { CallsGoOn }
+{}
+
+/// Where a run comes along a walk, by steps and whole calls, the walk is executed as the run goes.
+pub fn runs_are_executed()
+    ensures { RunsAreExecuted }
 {}
 
 /// Where a walk ends at an assertion and its condition is true, the assertion is.
