@@ -1,5 +1,5 @@
 -- A run that comes along a walk is executed on it.
-use Rattle.std.proofs.Common.{◌≡◌, ℕ, Bool, List, [], ◌∷◌, slice_get, Option, Some, None, subst, sym}
+use Rattle.std.proofs.Common.{ℕ, Bool, [], ◌∷◌, slice_get, Option, Some, None, subst, sym}
 use Rattle.sp_base.specs.Image.{ImageMap}
 use Rattle.sp_graph.specs.Routines.{callee_at}
 use Rattle.sp_isa.specs.declared.instr.Instr.{Instr}
