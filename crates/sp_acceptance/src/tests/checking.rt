@@ -42,7 +42,7 @@ static CHECKED: [(&str, &str); 22] = [
         "refused Struct 3 CallOut\n",
     ),
     (
-        ";# routine P\n;# depth 2\nP: CALL Q\n RET\n;# end\n;# routine Q\n;# depth 2\nQ: CALL P\n RET\n;# end\n",
+        ";# routine ONE\n;# depth 2\nONE: CALL TWO\n RET\n;# end\n;# routine TWO\n;# depth 2\nTWO: CALL ONE\n RET\n;# end\n",
         "refused Struct 4 Recursion\n",
     ),
     (
@@ -78,7 +78,7 @@ static CHECKED: [(&str, &str); 22] = [
         "refused Flow 4 Port 05\n",
     ),
     (
-        ";# routine R\n;# depth 2\nR: CALL S\n RET\n;# end\n;# routine S\n;# reads CY\nS: RET\n;# end\n",
+        ";# routine R\n;# depth 2\nR: CALL T\n RET\n;# end\n;# routine T\n;# reads CY\nT: RET\n;# end\n",
         "refused Flow 4 CallsReads CY\n",
     ),
 ];
