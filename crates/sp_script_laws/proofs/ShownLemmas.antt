@@ -1,9 +1,9 @@
 -- Each step of a script keeps truth, and so does the script.
-use Rattle.std.proofs.Common.{ℕ, ◌≡◌, refl, sym, ap, subst, List, [], ◌∷◌, arith}
+use Rattle.std.proofs.Common.{ℕ, ◌≡◌, refl, sym, subst, List, [], ◌∷◌}
 use Rattle.std.specs.Prelude.{All}
 use Rattle.std.specs.List.{AllByRecursion}
 use Rattle.sp_base.specs.Image.{ImageMap}
-use Rattle.sp_term.specs.Tree.{Tree, And}
+use Rattle.sp_term.specs.Tree.{Tree}
 use Rattle.sp_term.specs.Sorts.{Sort}
 use Rattle.sp_term.specs.Value.{Env, value, IsTrueIn}
 use Rattle.sp_term.specs.Admissible.{Region, Condition, IsAdmissible, IsValid}
