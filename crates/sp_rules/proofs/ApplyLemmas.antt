@@ -5,10 +5,13 @@ use Rattle.sp_term.specs.Tree.{Tree}
 use Rattle.sp_term.specs.Admissible.{Change}
 use Rattle.sp_steps.specs.declared.refusal.RuleRefusal.{RuleRefusal}
 use Rattle.sp_steps.specs.declared.refusal.RuleRefusal.TheVariants as refusal
-use Rattle.sp_steps.specs.Subgoals.{Subgoal, State, subgoal}
-use Rattle.sp_steps.specs.Steps.{Step, New}
+use Rattle.sp_simp.specs.Simple.{IsSimpleForm}
+use Rattle.sp_simp.proofs.OneLemmas.{simple_one}
+use Rattle.sp_steps.specs.Subgoals.{Subgoal, State, subgoal, hypothesis, IsFresh}
+use Rattle.sp_steps.specs.Steps.{Step, New, Fix, Pick, Induct, Simp, Built, adds}
+use Rattle.sp_steps.specs.Rows.{with_simple_goal, fixed, picked, inducted}
 use Rattle.sp_steps.specs.Next.{Row, after, IsNext, Applies}
-use Rattle.sp_steps.proofs.OneLemmas.{some_one, next_none}
+use Rattle.sp_steps.proofs.OneLemmas.{some_one, fresh_one, next_none}
 use Rattle.sp_rules.specs.declared.work.Work.{Work}
 use Rattle.sp_rules.specs.code.Work.{hypotheses_of, rest_of, changes_of}
 use Rattle.sp_rules.specs.code.Outcome.{Becomes, in_state, carried}
@@ -67,3 +70,52 @@ applies_at step old w goal o (Err refusal.Memory) h row b = tt
 -- no step applies where there is no subgoal
 pub applies_none : (step : Step) (old : State) → old.subgoals ≡ [] → Applies step old (Err refusal.NoApply)
 applies_none step old h = λ new n. next_none step old new h n
+
+-- ---- rules that are relations
+
+pub applies_fix : (old : State) (w : Work) (goal : Tree) (j : ℕ) (result : Result State RuleRefusal) → IsAtWork old w goal → IsFresh (subgoal (hypotheses_of w) goal) j → Becomes result (carried (fixed j goal) w) → Applies Fix old result
+applies_fix old w goal j result h f b =
+    applies_at Fix old w goal (fixed j goal) result h
+    (record {
+      holds = λ made e. (j, f, e);
+      only = λ made r. ap (λ l. fixed l goal) (fresh_one (subgoal (hypotheses_of w) goal) j r.0 f r.1) ∙ r.2;
+    }) b
+
+pub applies_pick : (k : ℕ) (old : State) (w : Work) (goal : Tree) (j : ℕ) (result : Result State RuleRefusal) → IsAtWork old w goal → IsFresh (subgoal (hypotheses_of w) goal) j → Becomes result (carried (picked j (hypothesis (hypotheses_of w) k) goal) w) → Applies (Pick k) old result
+applies_pick k old w goal j result h f b =
+    applies_at (Pick k) old w goal (picked j (hypothesis (hypotheses_of w) k) goal) result h
+    (record {
+      holds = λ made e. (j, f, e);
+      only = λ made r. ap (λ l. picked l (hypothesis (hypotheses_of w) k) goal) (fresh_one (subgoal (hypotheses_of w) goal) j r.0 f r.1) ∙ r.2;
+    }) b
+
+pub applies_induct : (old : State) (w : Work) (goal : Tree) (j : ℕ) (result : Result State RuleRefusal) → IsAtWork old w goal → IsFresh (subgoal (hypotheses_of w) goal) j → Becomes result (carried (inducted j goal) w) → Applies Induct old result
+applies_induct old w goal j result h f b =
+    applies_at Induct old w goal (inducted j goal) result h
+    (record {
+      holds = λ made e. (j, f, e);
+      only = λ made r. ap (λ l. inducted l goal) (fresh_one (subgoal (hypotheses_of w) goal) j r.0 f r.1) ∙ r.2;
+    }) b
+
+pub applies_simp : (old : State) (w : Work) (goal p : Tree) (result : Result State RuleRefusal) → IsAtWork old w goal → IsSimpleForm goal p → Becomes result (carried (Some (with_simple_goal p)) w) → Applies (Simp None) old result
+applies_simp old w goal p result h f b =
+    applies_at (Simp None) old w goal (Some (with_simple_goal p)) result h
+    (record {
+      holds = λ made e. (p, f, some_one (with_simple_goal p) made refl e);
+      only = λ made r. ap Some (ap with_simple_goal (simple_one f r.0 r.1) ∙ r.2);
+    }) b
+
+pub applies_simp_at : (k : ℕ) (old : State) (w : Work) (goal t p : Tree) (result : Result State RuleRefusal) → IsAtWork old w goal → hypothesis (hypotheses_of w) k ≡ Some t → IsSimpleForm t p → Becomes result (carried (adds (Built p ∷ []) goal) w) → Applies (Simp (Some k)) old result
+applies_simp_at k old w goal t p result h e f b =
+    applies_at (Simp (Some k)) old w goal (adds (Built p ∷ []) goal) result h
+    (record { holds = λ made d. (t, p, e, f, d); only = only }) b
+  where
+    only : (made : List New) → Row old.changes (subgoal (hypotheses_of w) goal) (Simp (Some k)) made → adds (Built p ∷ []) goal ≡ Some made
+    only made (u, q, d, g, m) = ap (λ s. adds (Built s ∷ []) goal) (simple_one f q (subst (λ s. IsSimpleForm s q) (some_one u t d e) g)) ∙ m
+
+pub applies_no_simp : (k : ℕ) (old : State) (w : Work) (goal : Tree) → IsAtWork old w goal → hypothesis (hypotheses_of w) k ≡ None → Applies (Simp (Some k)) old (Err refusal.NoApply)
+applies_no_simp k old w goal h e =
+    applies_at (Simp (Some k)) old w goal None (Err refusal.NoApply) h (record { holds = λ made d. none_some made d; only = only }) refl
+  where
+    only : (made : List New) → Row old.changes (subgoal (hypotheses_of w) goal) (Simp (Some k)) made → None ≡ Some made
+    only made (u, q, d, g, m) = none_some u (sym e ∙ d)

@@ -4,7 +4,13 @@
 mod formulas;
 mod goals;
 mod logic;
+mod numbers;
+mod simplifying;
+mod totals;
 mod work;
 
 pub use goals::{After, Case, Goals};
 pub use logic::{cases, close, cut, intro, side, split, unpack, use_both};
+pub use numbers::{divmod, range};
+pub use simplifying::simp;
+pub use totals::{empty, last, over};
