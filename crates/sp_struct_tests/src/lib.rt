@@ -1,4 +1,5 @@
-//! The rules on structure against sources with known answers. It has tests alone, so that these rules are proved once.
+//! The rules on structure and the walks of routines against sources with known answers. It has tests alone, so that
+//! these rules are proved once.
 #![tactic(auto)]
 
 #[cfg(test)]
@@ -13,3 +14,5 @@ mod sound;
 mod sources;
 #[cfg(test)]
 mod stack;
+#[cfg(test)]
+mod walks;
