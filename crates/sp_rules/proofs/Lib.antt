@@ -1,4 +1,5 @@
 mod ApplyLemmas
 mod FormulaLemmas
+mod FreshLemmas
 mod StackLemmas
 mod WorkLemmas

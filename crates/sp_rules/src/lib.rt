@@ -2,9 +2,11 @@
 #![tactic(auto)]
 
 mod formulas;
+mod fresh;
 mod goals;
 mod logic;
 mod numbers;
+mod quantifiers;
 mod simplifying;
 mod totals;
 mod work;
@@ -12,5 +14,6 @@ mod work;
 pub use goals::{After, Case, Goals};
 pub use logic::{cases, close, cut, intro, side, split, unpack, use_both};
 pub use numbers::{divmod, range};
+pub use quantifiers::{at, choose, fix, give, induct, pick};
 pub use simplifying::simp;
 pub use totals::{empty, last, over};

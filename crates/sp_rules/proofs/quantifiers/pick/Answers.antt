@@ -1,0 +1,7 @@
+use Rattle.sp_rules.proofs.ApplyLemmas.{applies_pick}
+use Rattle.sp_rules.proofs.quantifiers.pick.Goals as goal
+
+pub returns : goal.returns
+returns c =
+    applies_pick c.args.k c.args.goals c.in_ok-work.work c.in_ok-work.goal.now c.in_ok-j.j c.pick_at.result
+    (record { subgoals = c.in_ok-work.ensures.entered.0; changes = c.in_ok-work.ensures.entered.1 }) c.in_ok-j.ensures c.pick_at.ensures
