@@ -1,5 +1,7 @@
 pub mod Cases
 pub mod Fresh
+pub mod Named
 pub mod Outcome
+pub mod Rewritten
 pub mod StateCode
 pub mod Work
