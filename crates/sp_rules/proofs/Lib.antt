@@ -1,6 +1,7 @@
 mod ApplyLemmas
 mod FormulaLemmas
 mod FreshLemmas
+mod MemoryLemmas
 mod NamedLemmas
 mod ReplacementLemmas
 mod StackLemmas

@@ -1,4 +1,5 @@
 pub mod Cases
+pub mod Digits
 pub mod Fresh
 pub mod Named
 pub mod Outcome
