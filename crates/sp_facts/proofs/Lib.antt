@@ -6,4 +6,5 @@ pub mod CallLemmas
 pub mod EndLemmas
 pub mod EntryLemmas
 pub mod EnvironmentLemmas
+pub mod PassLemmas
 pub mod StepLemmas

@@ -1,11 +1,13 @@
 -- What holds of the runs of a routine and of the executions of its walks.
-use Rattle.std.specs.Prelude.{◌≡◌, ℕ, ◌+◌, ◌/◌, ◌%◌, ◌<◌, ◌≤◌, ℤ, Bool, false, All, List, [], ◌∷◌, length, map, slice_index, Some, None}
+use Rattle.std.specs.Prelude.{◌≡◌, ℕ, ◌+◌, ◌/◌, ◌%◌, ◌<◌, ◌≤◌, ℤ, Bool, false, All, List, [], ◌∷◌, length, map, slice_index, Some, None, ⊤}
 use Rattle.std.specs.FinMap as maps
 use Rattle.sp_base.specs.declared.location.Loc.{Loc}
 use Rattle.sp_base.specs.Image.{ImageMap}
 use Rattle.sp_base.specs.Locs.{has}
-use Rattle.sp_isa.specs.Core.{at}
+use Rattle.sp_isa.specs.Code.{code}
+use Rattle.sp_isa.specs.Core.{at, advance}
 use Rattle.sp_isa.specs.declared.instr.Instr.{Instr}
+use Rattle.sp_isa.specs.declared.instr.Instr.TheVariants.{Ccc, Rcc}
 use Rattle.sp_logic.specs.View.{note_of}
 use Rattle.sp_model.specs.Note.{Frame, Holds, IsClosed, shown, stack_address}
 use Rattle.sp_model.specs.Good.{Loaded}
@@ -71,6 +73,28 @@ StepsGoOn =
     (image : ImageMap) (f : Frame) (h : History) (s : State) (x : Execution) (i : Instr) (n : ℕ) (taken : Bool)
     → IsState s → s.core.halted ≡ false → next_instr s.core ≡ Some (i, n) → Asks f i x.state s.core → IsChoice i taken s.core
     → IsExecutionOf image f h s x → IsExecutionOf image f (with_bytes (bytes_of i s) h) (step s) (gone_on i taken x)
+
+-- Ccc and Rcc, which go on at the next instruction where their condition doesn't hold
+abbrev pub MayPass : Instr → Type 0
+MayPass (Ccc when w) = ⊤
+MayPass (Rcc when) = ⊤
+MayPass _ = ⊥
+
+-- The program counter goes on after the instruction, and nothing else changes.
+pub record HasPassed (i : Instr) (s t : State) : Type 0 where
+  pub core : t.core ≡ advance (length (code i)) s.core
+  pub inputs : t.inputs ≡ s.inputs
+  pub outputs : t.outputs ≡ s.outputs
+
+-- A call or a return that isn't taken is passed: its execution adds the choice alone.
+pub record PassesGoOn : Type 0 where
+  pub passed :
+      (s : State) (i : Instr) (n : ℕ) → s.core.halted ≡ false → next_instr s.core ≡ Some (i, n) → MayPass i → IsChoice i false s.core
+      → HasPassed i s (step s)
+  pub executed :
+      (image : ImageMap) (f : Frame) (h : History) (s : State) (x : Execution) (i : Instr) (n : ℕ)
+      → IsState s → s.core.halted ≡ false → next_instr s.core ≡ Some (i, n) → MayPass i → IsChoice i false s.core
+      → IsExecutionOf image f h s x → IsExecutionOf image f h (step s) (gone_on i false x)
 
 -- ---- Walks from an assertion
 

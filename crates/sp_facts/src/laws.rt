@@ -1,6 +1,6 @@
 ghost use Rattle.sp_facts.specs.Along.{RunsAreExecuted};
 ghost use Rattle.sp_facts.specs.Ends.{AssertionsHold, CalleesAreEntered, ReturnsKeepTheirWord, AccessesArePermitted};
-ghost use Rattle.sp_facts.specs.Theorems.{EnvironmentsAgree, EnvironmentsAreAdmissible, EntriesBegin, AssertionsBegin, StepsGoOn, CallsGoOn};
+ghost use Rattle.sp_facts.specs.Theorems.{EnvironmentsAgree, EnvironmentsAreAdmissible, EntriesBegin, AssertionsBegin, StepsGoOn, PassesGoOn, CallsGoOn};
 
 /// The environment of a run has the values of its states, and what has those of a longer run has those of the shorter.
 pub fn environments_agree()
@@ -20,6 +20,11 @@ pub fn entries_begin()
 /// An instruction that calls nothing is executed on its walk as it runs, by the choice that the flags make.
 pub fn steps_go_on()
     ensures { StepsGoOn }
+{}
+
+/// A call or a return that isn't taken changes the program counter alone, and its execution adds the choice alone.
+pub fn passes_go_on()
+    ensures { PassesGoOn }
 {}
 
 /// Where an asserted instruction is reached with its assertions true, the empty walk from there is executed.
