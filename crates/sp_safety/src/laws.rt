@@ -1,0 +1,7 @@
+ghost use Rattle.sp_safety.specs.Theorems.{RunsAreSafe};
+
+/// Where calls lead to lower ranks, and each routine's own code is right with its calls as whole steps, all runs are good,
+/// and contained unless their routine is a start routine.
+pub fn runs_are_safe()
+    ensures { RunsAreSafe }
+{}

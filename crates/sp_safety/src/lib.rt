@@ -1,0 +1,6 @@
+//! All runs of a unit are good and contained. There is no code here, only laws.
+#![tactic(auto)]
+
+mod laws;
+
+pub use laws::runs_are_safe;
