@@ -1,0 +1,5 @@
+pub mod Control
+pub mod Counts
+pub mod Graphs
+pub mod Successors
+pub mod Walks
