@@ -9,6 +9,7 @@ mod laws;
 mod names;
 mod operands;
 mod pairs;
+mod parts;
 mod symbolic;
 mod terms;
 mod transfers;
@@ -19,5 +20,6 @@ pub use laws::{
     calls_keep_values, formulas_are_closed, notes_are_translated, pointers_stay, premises_are_met,
     states_stay_symbolic, steps_are_translated, translation_by_example,
 };
+pub use parts::{location_term, word_term};
 pub use symbolic::Sym;
 pub use translation::apply;
