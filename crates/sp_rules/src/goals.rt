@@ -1,8 +1,9 @@
 ghost use Rattle.std.specs.Prelude.{◌≡◌, ◌↔◌, [], IfOk, IsTrue};
 ghost use Rattle.sp_term.specs.Conditions.{condition_of};
 ghost use Rattle.sp_steps.specs.Subgoals.{start};
+ghost use Rattle.sp_rules.specs.First.{IsFirst};
 
-use crate::work::Work;
+use crate::work::{Work, enter};
 use bumpalo::Bump;
 use sp_base::Memory;
 use sp_steps::RuleRefusal;
@@ -21,6 +22,13 @@ pub enum Case<'a> {
 #[derive(Drop)]
 pub struct Goals<'a> {
     pub work: Work<'a>,
+}
+
+/// A subgoal: its hypotheses, numbered from 1, and its goal.
+#[derive(Drop)]
+pub struct Subgoal<'a> {
+    pub hypotheses: Vec<&'a Term<'a>>,
+    pub goal: &'a Term<'a>,
 }
 
 /// The subgoals after a step.
@@ -55,5 +63,20 @@ impl<'a> Goals<'a> {
         ensures { IsTrue result ↔ (self.now.subgoals ≡ []) }
     {
         self.work.is_empty()
+    }
+
+    /// Takes the first subgoal out, to be shown: this subgoal and those after it, or None where there is none.
+    pub fn take_first(self) -> Result<Option<(Subgoal<'a>, Goals<'a>)>, Memory>
+        ensures { IfOk result (λ first. IsFirst first self.entry) }
+    {
+        match enter(self) {
+            Ok((work, goal)) => {
+                let mut hypotheses = Vec::new(work.alloc());
+                hypotheses.extend_from_slice(work.hypotheses())?;
+                Ok(Some((Subgoal { hypotheses, goal }, Goals { work })))
+            }
+            Err(RuleRefusal::NoApply) => Ok(None),
+            Err(RuleRefusal::Memory) => Err(Memory),
+        }
     }
 }

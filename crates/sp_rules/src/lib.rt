@@ -18,7 +18,7 @@ mod work;
 
 pub use bytes::{bitof, bits};
 pub use combination::linear;
-pub use goals::{After, Case, Goals};
+pub use goals::{After, Case, Goals, Subgoal};
 pub use logic::{cases, close, cut, intro, side, split, unpack, use_both};
 pub use memories::{frame, read, rom};
 pub use numbers::{divmod, range};
