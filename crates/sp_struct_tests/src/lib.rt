@@ -7,6 +7,8 @@ mod control;
 #[cfg(test)]
 mod expected;
 #[cfg(test)]
+mod forks;
+#[cfg(test)]
 mod loops;
 #[cfg(test)]
 mod sound;
