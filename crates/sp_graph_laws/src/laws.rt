@@ -1,5 +1,6 @@
 ghost use Rattle.sp_graph_laws.specs.Control.{AccessesByExample, ControlFollowsTheProcessor};
 ghost use Rattle.sp_graph_laws.specs.Counts.{AnswersAreOne, LimitsByExample, WalksDouble};
+ghost use Rattle.sp_graph_laws.specs.Depths.{DepthsByExample};
 ghost use Rattle.sp_graph_laws.specs.Graphs.{GraphsByExample};
 ghost use Rattle.sp_graph_laws.specs.Successors.{BeforeByExample, PlacesByExample, SuccessorsByExample};
 ghost use Rattle.sp_graph_laws.specs.Walks.{CutsByExample, WalksByExample};
@@ -57,4 +58,9 @@ pub fn limits_by_example()
 /// Walks are answered in one way.
 pub fn answers_are_one()
     ensures { AnswersAreOne }
+{}
+
+/// Depths that differ, and twins in which they don't.
+pub fn depths_by_example()
+    ensures { DepthsByExample }
 {}
