@@ -80,7 +80,7 @@ return_runs u r s t h = ap (λ (c : State). c.core.halted) (steps_execute t h.re
 
 -- ---- What a callee keeps, its caller keeps
 
-keeps_through : (u : Unit) (r q : Routine) (s s' t : State) → Enters u r q s s' → Keeps u q s' t → Keeps u r s t
+pub keeps_through : (u : Unit) (r q : Routine) (s s' t : State) → Enters u r q s s' → Keeps u q s' t → Keeps u r s t
 keeps_through u r q s s' t h after =
     let below = h.below in
     let above = h.above in

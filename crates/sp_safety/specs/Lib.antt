@@ -1,3 +1,4 @@
 pub mod Calls
 pub mod Contained
+pub mod Settled
 pub mod Theorems
