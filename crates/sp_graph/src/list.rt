@@ -27,9 +27,4 @@ impl<'u> Walks<'u> {
     {
         Ok(self.search.next()?)
     }
-
-    /// The unit of the routine.
-    pub fn unit(&self) -> &'u Unit {
-        self.unit
-    }
 }
