@@ -19,7 +19,7 @@ pub struct Filled {
     pub applies: bool,
 }
 
-pub static HYPOTHESES: [Filled; 16] = [
+pub static HYPOTHESES: [Filled; 18] = [
     Filled {
         first: &[],
         more: 4095,
@@ -60,6 +60,20 @@ pub static HYPOTHESES: [Filled; 16] = [
         more: 4094,
         goal: "false",
         step: Call::Number(Number::DivMod("a", 2)),
+        applies: false,
+    },
+    Filled {
+        first: &[],
+        more: 4094,
+        goal: "false",
+        step: Call::Number(Number::Bits("a")),
+        applies: true,
+    },
+    Filled {
+        first: &[],
+        more: 4095,
+        goal: "false",
+        step: Call::Number(Number::Bits("a")),
         applies: false,
     },
     Filled {
