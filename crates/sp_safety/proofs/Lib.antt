@@ -3,6 +3,7 @@ pub mod AccessLemmas
 pub mod AreaLemmas
 pub mod BackLemmas
 pub mod EnterLemmas
+pub mod ExampleLemmas
 pub mod FactsLemmas
 pub mod FetchLemmas
 pub mod FitLemmas

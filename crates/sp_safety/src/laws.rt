@@ -1,3 +1,4 @@
+ghost use Rattle.sp_safety.specs.Examples.{PremisesCanBeMet};
 ghost use Rattle.sp_safety.specs.Theorems.{RunsAreSafe, SettledUnitsAreSafe};
 
 /// Where calls lead to lower ranks, and each routine's own code is right with its calls as whole steps, all runs are good,
@@ -10,4 +11,9 @@ pub fn runs_are_safe()
 /// good, and contained unless their routine is a start routine.
 pub fn settled_units_are_safe()
     ensures { SettledUnitsAreSafe }
+{}
+
+/// The unit of a routine that is a RET is settled.
+pub fn premises_can_be_met()
+    ensures { PremisesCanBeMet }
 {}
