@@ -1,8 +1,7 @@
 -- From what a rule makes of the first subgoal to the answer of its call.
-use Rattle.std.proofs.Common.{◌≡◌, ℕ, refl, sym, ◌∙◌, ap, subst, true, false, List, [], ◌∷◌, ◌++◌, Option, Some, None}
+use Rattle.std.proofs.Common.{◌≡◌, ℕ, refl, sym, ◌∙◌, ap, subst, List, [], ◌∷◌, Option, Some, None}
 use Rattle.std.specs.Prelude.{Result, Ok, Err}
 use Rattle.sp_term.specs.Tree.{Tree}
-use Rattle.sp_term.specs.Admissible.{Change}
 use Rattle.sp_steps.specs.declared.refusal.RuleRefusal.{RuleRefusal}
 use Rattle.sp_steps.specs.declared.refusal.RuleRefusal.TheVariants as refusal
 use Rattle.sp_simp.specs.Simple.{IsSimpleForm}

@@ -1,8 +1,8 @@
 -- Tests of trees as truth values.
-use Rattle.std.proofs.Common.{◌≡◌, refl, sym, ap, ◌∙◌, Bool, true, false}
+use Rattle.std.proofs.Common.{◌≡◌, refl, sym, Bool, true, false}
 use Rattle.std.specs.Prelude.{◌↔◌, IsTrue}
-use Rattle.sp_term.specs.Tree.{Tree, Truth}
-use Rattle.sp_simp.specs.Same.{tree_eq, tree_one, tree_self, tree_same}
+use Rattle.sp_term.specs.Tree.{Tree}
+use Rattle.sp_simp.specs.Same.{tree_eq, tree_one, tree_same}
 
 -- a test that passes exactly where two trees are one is the test of trees
 pub decided : (x y : Tree) (b : Bool) → (IsTrue b ↔ (x ≡ y)) → b ≡ tree_eq x y

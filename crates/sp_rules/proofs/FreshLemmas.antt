@@ -1,5 +1,5 @@
 -- Numbers of variables `k_j`: what a set has after some were added, and the first that isn't there.
-use Rattle.std.proofs.Common.{◌≡◌, ℕ, zero, suc, ◌+◌, ◌≤◌, ◌<◌, refl, sym, ap, subst, ◌∙◌, arith, Bool, true, false, ◌||◌, ◌==◌, ◌⊎◌, inl, inr, List, [], ◌∷◌, ◌++◌, length, take, get_or, Result, Ok, Err, IfOk, OnOk}
+use Rattle.std.proofs.Common.{◌≡◌, ℕ, zero, suc, ◌+◌, ◌≤◌, ◌<◌, refl, sym, ap, subst, ◌∙◌, arith, Bool, true, false, ◌||◌, ◌==◌, ◌⊎◌, inl, inr, List, [], ◌∷◌, length, take, get_or, Result, Ok, Err, IfOk, OnOk}
 use Rattle.std.specs.Borrow.{Bor}
 use Rattle.std.specs.Prelude.{cond}
 use Rattle.std.specs.Ordering.{nat_cmp, eq_by_cmp}
@@ -10,7 +10,7 @@ use Rattle.std.specs.BTreeSet.{BTreeSet}
 use Rattle.sp_term.specs.declared.var.Var.{Var}
 use Rattle.sp_term.specs.declared.var.Var.TheVariants as var
 use Rattle.sp_term.specs.Tree.{Tree}
-use Rattle.sp_term.specs.Free.{is_free, var_eq}
+use Rattle.sp_term.specs.Free.{var_eq}
 use Rattle.sp_term.specs.Conditions.{trees}
 use Rattle.sp_steps.specs.Subgoals.{subgoal, some_has, occurs, IsFresh}
 use Rattle.sp_rules.specs.code.Fresh.{Numbers, has, either, Gains, IsFirstAbsent}

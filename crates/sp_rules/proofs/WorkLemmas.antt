@@ -1,7 +1,7 @@
 -- The stack of subgoals: pushed, popped, and the hypotheses at work changed above what each shares.
-use Rattle.std.proofs.Common.{◌≡◌, ℕ, zero, suc, ◌+◌, ◌<◌, ◌≤◌, max, refl, sym, ap, subst, ◌∙◌, arith, Bool, true, false, ◌&&◌, List, [], ◌∷◌, ◌++◌, length, take, map, Option, Some, None}
+use Rattle.std.proofs.Common.{◌≡◌, ℕ, zero, suc, ◌+◌, ◌<◌, ◌≤◌, refl, sym, ap, subst, ◌∙◌, arith, Bool, true, false, ◌&&◌, List, [], ◌∷◌, ◌++◌, length, take, map, Some, None}
 use Rattle.std.proofs.lemmas.Bool.{eqb-true}
-use Rattle.std.specs.Prelude.{IsTrue, ◌==◌, nat_le, if◌then◌else◌, ⊤}
+use Rattle.std.specs.Prelude.{IsTrue, ◌==◌, nat_le, if◌then◌else◌}
 use Rattle.std.specs.List.{AllByRecursion}
 use Rattle.std.proofs.lemmas.List.{take-append-le, length-take, length-append}
 use Rattle.std.proofs.Math.Seq.{take-length}
@@ -10,7 +10,7 @@ use Rattle.sp_term.specs.Tree.{Tree}
 use Rattle.std.specs.Borrow.{Bor}
 use Rattle.sp_term.specs.declared.cond.Cond.{Cond}
 use Rattle.sp_term.specs.Conditions.{trees, change_of, condition_of}
-use Rattle.sp_steps.specs.Subgoals.{Subgoal, State, subgoal, joined, first_subgoals, start, most_hypotheses, most_subgoals}
+use Rattle.sp_steps.specs.Subgoals.{Subgoal, subgoal, joined, first_subgoals, start, most_hypotheses}
 use Rattle.sp_steps.specs.Next.{may_be_subgoals}
 use Rattle.sp_rules.specs.declared.work.Waiting.{Waiting}
 use Rattle.sp_rules.specs.declared.work.Work.{Work}

@@ -1,5 +1,5 @@
 -- The subgoals as a stack: the first one stands last, and each has its own hypotheses after some of those at work.
-use Rattle.std.specs.Prelude.{◌≡◌, ℕ, ◌≤◌, ⊤, List, [], ◌∷◌, ◌++◌, map, take, length}
+use Rattle.std.specs.Prelude.{ℕ, ◌≤◌, ⊤, List, [], ◌∷◌, ◌++◌, map, take, length}
 use Rattle.std.specs.List.{AllByRecursion}
 use Rattle.sp_term.specs.Tree.{Tree}
 use Rattle.sp_term.specs.Admissible.{Change}

@@ -1,5 +1,5 @@
-use Rattle.sp_steps.specs.Steps.{CasesOn, Cut}
-use Rattle.sp_steps.specs.Rows.{cases_on, cut_by}
+use Rattle.sp_steps.specs.Steps.{CasesOn}
+use Rattle.sp_steps.specs.Rows.{cases_on}
 use Rattle.sp_rules.proofs.ApplyLemmas.{applies_at}
 use Rattle.sp_rules.proofs.logic.cases_on.Goals as goal
 

@@ -1,5 +1,5 @@
-use Rattle.sp_steps.specs.Steps.{CasesOn, Cut}
-use Rattle.sp_steps.specs.Rows.{cases_on, cut_by}
+use Rattle.sp_steps.specs.Steps.{Cut}
+use Rattle.sp_steps.specs.Rows.{cut_by}
 use Rattle.sp_rules.proofs.ApplyLemmas.{applies_at}
 use Rattle.sp_rules.proofs.logic.cut.Goals as goal
 

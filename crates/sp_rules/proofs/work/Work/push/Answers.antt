@@ -1,4 +1,4 @@
-use Rattle.std.proofs.Common.{◌≡◌, ◌≤◌, ◌+◌, true, ap, sym, subst, ◌∙◌, length, arith, refl}
+use Rattle.std.proofs.Common.{◌≡◌, true, ap, sym, ◌∙◌, length}
 use Rattle.std.proofs.lemmas.Bool.{eqb-true}
 use Rattle.sp_term.specs.Conditions.{trees}
 use Rattle.sp_rules.specs.code.Work.{hypotheses_of}

@@ -1,4 +1,4 @@
-use Rattle.std.proofs.Common.{◌≡◌, ◌≤◌, ◌<◌, ◌+◌, subst, sym, arith, length}
+use Rattle.std.proofs.Common.{arith}
 use Rattle.sp_term.specs.Conditions.{trees}
 use Rattle.sp_rules.proofs.WorkLemmas.{two_many, two_work}
 use Rattle.sp_rules.proofs.work.Work.two.Goals as goal
