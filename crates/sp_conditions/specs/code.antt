@@ -1,0 +1,6 @@
+pub mod Cells
+pub mod Limits
+pub mod Moves
+pub mod Notes
+pub mod Places
+pub mod Spans
