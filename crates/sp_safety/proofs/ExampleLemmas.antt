@@ -38,8 +38,8 @@ use Rattle.sp_term.specs.declared.var.Var.TheVariants as var
 use Rattle.sp_term.specs.Admissible.{IsValid}
 use Rattle.sp_term.specs.Value.{Env, IsTrueIn}
 use Rattle.sp_cond.specs.WalkConditions.{condition}
-use Rattle.sp_safety.specs.Examples.{cells, depths, lists, ret, returning, unit, PremisesCanBeMet}
-use Rattle.sp_safety.specs.Settled.{region_of}
+use Rattle.sp_safety.specs.Examples.{cells, depths, lists, ret, returning, unit}
+use Rattle.sp_safety.specs.Settled.{IsSettled, region_of}
 
 none_in : {A : Type 0} (y : A) → Contains [] y → ⊥
 none_in y c = omega (arith, c.1)
@@ -48,25 +48,25 @@ only_one : {A : Type 0} (x y : A) (k : ℕ) → slice_get (x ∷ []) k ≡ Some 
 only_one x y zero e = (refl, cc)
 only_one x y (suc k) e = absurd cc
 
-only_element : {A : Type 0} (x y : A) → Contains (x ∷ []) y → x ≡ y
+pub only_element : {A : Type 0} (x y : A) → Contains (x ∷ []) y → x ≡ y
 only_element x y h = elim (first_or_later x y [] h) [ inl e ↦ e | inr below ↦ absurd (none_in y below) ]
 
 -- ---- The rules of units
 
-get_is : (q : ℕ) → maps.get (maps.from_sorted {R = nat_cmp} cells) q ≡ find nat_cmp q cells
+pub get_is : (q : ℕ) → maps.get (maps.from_sorted {R = nat_cmp} cells) q ≡ find nat_cmp q cells
 get_is q = maps.get-from_sorted nat_cmp cells q tt
 
 tied : (x y : ℕ) → eq_by_cmp nat_cmp x y ≡ true → x ≡ y
 tied x y h = search rules
 
-untied : (x y : ℕ) → x ≢ y → eq_by_cmp nat_cmp x y ≡ false
+pub untied : (x y : ℕ) → x ≢ y → eq_by_cmp nat_cmp x y ≡ false
 untied x y differ = by (eq_by_cmp nat_cmp x y) refl
   where
     by : (t : Bool) → eq_by_cmp nat_cmp x y ≡ t → t ≡ false
     by true e = absurd (differ (tied x y e))
     by false e = refl
 
-free : (q : ℕ) → q ≢ 0 → IsFree (maps.from_sorted cells) q
+pub free : (q : ℕ) → q ≢ 0 → IsFree (maps.from_sorted cells) q
 free q other = get_is q ∙ ap (λ t. cond t (Some 0xC9) None) (untied q 0 other)
 
 image_cells : AreCells cells
@@ -264,5 +264,5 @@ conditions zero w h =
     (λ e admissible given. All-from_recursion (IsTrueIn e) (condition unit depths 0 only_walk).goals (is_true e))
 conditions (suc r) w h = absurd (none_in w (subst (λ ws. Contains ws w) (no_walks r) h))
 
-pub premises_can_be_met : PremisesCanBeMet
-premises_can_be_met = record { unit = is_unit; structure = is_sound; flow = is_flowing; conditions = conditions }
+pub is_settled : IsSettled unit depths
+is_settled = record { unit = is_unit; structure = is_sound; flow = is_flowing; conditions = conditions }

@@ -19,4 +19,5 @@ pub mod RightLemmas
 pub mod RuleLemmas
 pub mod SafeLemmas
 pub mod SettleLemmas
+pub mod TwinLemmas
 pub mod WayLemmas

@@ -1,4 +1,4 @@
-ghost use Rattle.sp_safety.specs.Examples.{PremisesCanBeMet};
+ghost use Rattle.sp_safety.specs.Examples.{PremisesCanBeMet, TwinsAreNotSettled};
 ghost use Rattle.sp_safety.specs.Theorems.{RunsAreSafe, SettledUnitsAreSafe};
 
 /// Where calls lead to lower ranks, and each routine's own code is right with its calls as whole steps, all runs are good,
@@ -13,7 +13,12 @@ pub fn settled_units_are_safe()
     ensures { SettledUnitsAreSafe }
 {}
 
-/// The unit of a routine that is a RET is settled.
+/// The unit of a routine that is a RET is settled, and the routine has entries.
 pub fn premises_can_be_met()
     ensures { PremisesCanBeMet }
+{}
+
+/// A unit whose routine puts another value in A, which it doesn't list, isn't settled, whatever depths are given.
+pub fn twins_are_not_settled()
+    ensures { TwinsAreNotSettled }
 {}

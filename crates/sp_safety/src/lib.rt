@@ -3,4 +3,4 @@
 
 mod laws;
 
-pub use laws::{premises_can_be_met, runs_are_safe, settled_units_are_safe};
+pub use laws::{premises_can_be_met, runs_are_safe, settled_units_are_safe, twins_are_not_settled};

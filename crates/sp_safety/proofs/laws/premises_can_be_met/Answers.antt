@@ -1,4 +1,4 @@
-use Rattle.sp_safety.proofs.ExampleLemmas.{premises_can_be_met}
+use Rattle.sp_safety.proofs.TwinLemmas.{premises_can_be_met}
 use Rattle.sp_safety.proofs.laws.premises_can_be_met.Goals as goal
 
 pub returns : goal.returns
