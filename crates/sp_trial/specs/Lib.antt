@@ -1,0 +1,4 @@
+pub mod code
+pub mod Judged
+pub mod Setup
+pub mod Trials

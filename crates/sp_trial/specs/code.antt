@@ -1,0 +1,4 @@
+pub mod Courses
+pub mod Entering
+pub mod Returning
+pub mod Tables
