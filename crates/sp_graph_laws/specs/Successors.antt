@@ -1,7 +1,7 @@
 -- Where instructions go on, by example (this project's own).
 use Rattle.std.specs.Prelude.{◌≡◌, ℕ, false, List, [], ◌∷◌, None, Some, codes}
 use Rattle.sp_base.specs.Locs.{none}
-use Rattle.sp_graph.specs.Successors.{place_of, routine_at, successors, first_before}
+use Rattle.sp_graph.specs.Successors.{place_of, routine_at, successors, first_before, AreBefore}
 use Rattle.sp_isa.specs.declared.instr.Cond.TheVariants as when
 use Rattle.sp_isa.specs.declared.instr.Instr.{Instr}
 use Rattle.sp_isa.specs.declared.instr.Instr.TheVariants.{Jmp, Jcc, Call, Ccc, Ret, Rcc, Rst, Pchl, Nop, Hlt}
@@ -82,3 +82,7 @@ pub record BeforeByExample : Type 0 where
   pub once : first_before (code (Jcc when.Z 3) []) 3 1 ≡ 0 ∷ []
   pub itself : first_before (code (Jmp 0) []) 3 0 ≡ 0 ∷ []
   pub among_the_first : first_before (code (Jcc when.Z 4) []) 1 2 ≡ 0 ∷ []
+
+-- the lists of the instructions before each one are one
+pub record BeforeIsOne : Type 0 where
+  pub one : (stmts : List Stmt) (x y : List (List ℕ)) → AreBefore stmts x → AreBefore stmts y → x ≡ y

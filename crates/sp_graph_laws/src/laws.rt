@@ -2,7 +2,7 @@ ghost use Rattle.sp_graph_laws.specs.Control.{AccessesByExample, ControlFollowsT
 ghost use Rattle.sp_graph_laws.specs.Counts.{AnswersAreOne, LimitsByExample, WalksDouble};
 ghost use Rattle.sp_graph_laws.specs.Depths.{DepthsByExample};
 ghost use Rattle.sp_graph_laws.specs.Graphs.{GraphsByExample};
-ghost use Rattle.sp_graph_laws.specs.Successors.{BeforeByExample, PlacesByExample, SuccessorsByExample};
+ghost use Rattle.sp_graph_laws.specs.Successors.{BeforeByExample, BeforeIsOne, PlacesByExample, SuccessorsByExample};
 ghost use Rattle.sp_graph_laws.specs.Walks.{CutsByExample, WalksByExample};
 
 /// Control leaves each instruction as the processor goes on, apart from PCHL.
@@ -28,6 +28,11 @@ pub fn places_by_example()
 /// Which instructions go on at another one.
 pub fn before_by_example()
     ensures { BeforeByExample }
+{}
+
+/// The lists of the instructions before each one are one.
+pub fn before_is_one()
+    ensures { BeforeIsOne }
 {}
 
 /// What walks see of each kind of instruction.
