@@ -75,8 +75,8 @@ module _ (routines : List Routine) (stmts : List Stmt) (at : ℕ) where
 
   not_taken : (i : Instr) (core : Core) (w : ℕ) (b : Bool) → b ≡ false → ends (control_of i) ≡ false → way_by i false ≡ next_of stmts at
       → Goes i b (cond b (w % 65536) (next_address i core)) (next_address i core)
-  not_taken i core w true h runs goes = cc
-  not_taken i core w false h runs goes = inr (record { open_end = runs; goes = goes; pc_is = refl })
+  not_taken i core w true h unended goes = cc
+  not_taken i core w false h unended goes = inr (record { open_end = unended; goes = goes; pc_is = refl })
 
   -- an instruction that goes on in its routine
   goes_on : (i : Instr) (core : Core) → is_computed i ≡ false → way_of i core ≡ On → Goes i (chosen i core) (pc_after i core) (next_address i core)
@@ -152,11 +152,11 @@ module _ (p : Program) (r : ℕ) (routine : Routine) (depths : List ℕ) (given 
 
   fall_by : (taken : Bool) (pc : ℕ) (core : Core) → s.addr ≡ core.pc → pc ≡ next_address s.instr core → ends (control_of s.instr) ≡ false → way_by p.routines routine.code at s.instr taken ≡ next_of routine.code at
       → (b : Bool) → nat_lt (at + 1) (length routine.code) ≡ b → Onward taken pc
-  fall_by taken pc core counter pc_is runs goes false is =
+  fall_by taken pc core counter pc_is unended goes false is =
       let within = slice_get_within routine.code at s here in
       let last : at + 1 ≡ length routine.code = grind (arith, nat_tests) in
-      absurd (given.structured.falls s.line.0 (r, at, routine, s, is_at p r routine depths given at s here, refl, (last, runs)))
-  fall_by taken pc core counter pc_is runs goes true is =
+      absurd (given.structured.falls s.line.0 (r, at, routine, s, is_at p r routine depths given at s here, refl, (last, unended)))
+  fall_by taken pc core counter pc_is unended goes true is =
       let within : at + 1 < length routine.code = grind (arith, nat_tests) in
       let there = slice_get-get_or routine.code (at + 1) s within in
       let next = laid_next (address_of routine) routine.code (rules p r routine depths given).laid_out at s (get_or routine.code (at + 1) s) here there in
