@@ -1,5 +1,5 @@
 -- A call or a return that isn't taken is passed.
-use Rattle.std.proofs.Common.{◌≡◌, ℕ, ◌+◌, false, cond, ◌++◌, Option, Some, length, refl, sym, ap, subst, ◌∙◌, arith}
+use Rattle.std.proofs.Common.{◌≡◌, ℕ, ◌+◌, false, cond, ◌++◌, Option, Some, length, refl, sym, ap, subst, arith}
 use Rattle.std.proofs.lemmas.List.{append-nil}
 use Rattle.sp_base.specs.Image.{ImageMap}
 use Rattle.sp_isa.specs.declared.instr.Cond.{Cond}

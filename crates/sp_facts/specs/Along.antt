@@ -1,5 +1,5 @@
 -- A run beside the steps of a walk (this project's own).
-use Rattle.std.specs.Prelude.{◌≡◌, ℕ, Bool, false, All, List, [], ◌∷◌, length, slice_get, Option, None, Some}
+use Rattle.std.specs.Prelude.{◌≡◌, ◌⊎◌, ℕ, Bool, false, All, List, [], ◌∷◌, length, slice_get, Option, None, Some}
 use Rattle.sp_base.specs.Image.{ImageMap}
 use Rattle.sp_graph.specs.Routines.{callee_at}
 use Rattle.sp_graph.specs.declared.walk.Step.{Step}
@@ -14,15 +14,16 @@ use Rattle.sp_cond.specs.Execution.{Execution, begun, executed}
 use Rattle.sp_cond.specs.Start.{Setting}
 use Rattle.sp_facts.specs.Executions.{IsExecutionOf, IsChoice, bytes_of}
 use Rattle.sp_facts.specs.Histories.{History, with_call, with_bytes}
-use Rattle.sp_facts.specs.Theorems.{HasLeft, IsTrueBetween}
+use Rattle.sp_facts.specs.Theorems.{HasLeft, IsTrueBetween, MayPass}
 
--- the run has taken a step of an instruction that calls nothing
+-- the run has taken a step of an instruction that calls nothing: what translation asks is met, or it is a call or a return
+-- that isn't taken
 pub record HasTakenStep (f : Frame) (i : Instr) (taken : Bool) (x : Execution) (h : History) (s : State) (after : History) (now : State) : Type 0 where
   pub state : IsState s
   pub running : s.core.halted ≡ false
   pub size : ℕ
   pub next : next_instr s.core ≡ Some (i, size)
-  pub asks : Asks f i x.state s.core
+  pub asks : Asks f i x.state s.core ⊎ (MayPass i × (taken ≡ false))
   pub choice : IsChoice i taken s.core
   pub after_is : after ≡ with_bytes (bytes_of i s) h
   pub now_is : now ≡ step s
