@@ -11,7 +11,7 @@ use std::test::Fail;
 
 /// How a text is read, or how it is refused.
 fn shown(rt: &impl Abort, alloc: Global, text: &[u8]) -> Result<String, Fail> {
-    assert!(rt; text.len() < 10_000);
+    assert!(rt; text.len() < 100_000);
     match read_scripts(alloc, text) {
         Ok(_) => Ok(String::from_str(alloc, "read")?),
         Err(Refused::At(Line(n), ScriptKind::Syntax)) => Ok(format!(in alloc; "syntax {n}")?),
@@ -32,6 +32,37 @@ fn lines_are_read_or_refused(rt: HostRuntime) -> Result<(), Fail> {
 fn files_are_read_or_refused(rt: HostRuntime) -> Result<(), Fail> {
     for (text, answer) in &WHOLE {
         assert_eq!(&rt; shown(&rt, rt.alloc(), text)?.as_str(), *answer);
+    }
+    Ok(())
+}
+
+/// A script that cuts `true` within so many `(not ..)`.
+fn nested(alloc: Global, depth: usize) -> Result<String, Fail> {
+    let mut text = String::from_str(alloc, "script ORD.1\ncut ")?;
+    for _ in 0..depth {
+        text.push_str("(not ")?;
+    }
+    text.push_str("true")?;
+    for _ in 0..depth {
+        text.push_str(")")?;
+    }
+    text.push_str("\nend\n")?;
+    Ok(text)
+}
+
+/// Depths, and how the script is read: a formula is at most 2,000 deep.
+static DEPTHS: [(usize, &str); 4] = [
+    (0, "read"),
+    (1_999, "read"),
+    (2_000, "syntax 2"),
+    (2_001, "syntax 2"),
+];
+
+#[test]
+fn formulas_are_at_most_2000_deep(rt: HostRuntime) -> Result<(), Fail> {
+    for (depth, answer) in &DEPTHS {
+        let text = nested(rt.alloc(), *depth)?;
+        assert_eq!(&rt; shown(&rt, rt.alloc(), text.as_bytes())?.as_str(), *answer);
     }
     Ok(())
 }
