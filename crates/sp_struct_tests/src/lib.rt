@@ -11,6 +11,8 @@ mod forks;
 #[cfg(test)]
 mod loops;
 #[cfg(test)]
+mod rows;
+#[cfg(test)]
 mod sound;
 #[cfg(test)]
 mod sources;
