@@ -4,6 +4,7 @@
 mod accesses;
 mod calls;
 mod choices;
+mod conclusions;
 mod formulas;
 mod frames;
 mod limits;
@@ -15,6 +16,7 @@ mod steps;
 pub use accesses::add_access;
 pub use calls::{called_place, callee_of, routine_in};
 pub use choices::add_choice;
+pub use conclusions::add_goals;
 pub use formulas::{Formulas, add_formulas};
 pub use frames::{Frames, Spans, add_call, frame, spans_of};
 pub use limits::within_limits;
